@@ -1,0 +1,4 @@
+pub mod Admitted
+pub mod BlockLaws
+pub mod PlainLaws
+pub mod WriteBackLaws

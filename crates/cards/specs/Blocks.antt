@@ -1,0 +1,12 @@
+-- Bytes as a run of blocks of 512 bytes, one after another.
+use mathlib.Core.List.{List, _++_}
+use Prim.Native.Nat.{ℕ, _+_, _*_}
+use lib.ListN.{take, drop}
+
+-- the block at place p
+abbrev pub block-at : List ℕ → ℕ → List ℕ
+block-at xs p = take 512 (drop (p * 512) xs)
+
+-- the run with the block c at place p
+abbrev pub put-block : List ℕ → ℕ → List ℕ → List ℕ
+put-block xs p c = take (p * 512) xs ++ (c ++ drop (p * 512 + 512) xs)

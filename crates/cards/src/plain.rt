@@ -1,0 +1,77 @@
+// A card that writes straight through to lent bytes. Nothing waits, so a loss of power changes nothing.
+ghost use mathlib.Core.Bool.{cond};
+ghost use mathlib.Core.Path.{_≡_};
+ghost use denote.Ref.{now};
+ghost use lib.ListN.{length};
+ghost use Rattle.std.specs.Results.{isOk};
+ghost use Rattle.cards.specs.Answers.{answer, Written};
+ghost use Rattle.cards.specs.Blocks.{put-block};
+ghost use Rattle.cards.specs.Lenders.{lent};
+ghost use Rattle.cards.specs.Meanings.{Flushed, Lost};
+ghost use Rattle.cards.specs.PlainCards.{plain};
+ghost use Rattle.cards.specs.SoundCards.{plain-sound};
+use crate::blocks::admit;
+use crate::blocks::get_block;
+use crate::blocks::put_block;
+use crate::card::BLOCK_SIZE;
+use crate::card::Card;
+use crate::card::MOST_BLOCKS;
+use crate::fault::Fault;
+
+#[derive(Drop)]
+pub struct PlainCard<'a> {
+    bytes: &'a mut [u8],
+}
+
+impl<'a> PlainCard<'a> {
+    // A card over the lent bytes.
+    pub fn new(bytes: &'a mut [u8]) -> PlainCard<'a>
+        ensures exact { λ r. ⌜ now (r .bytes) ≡ now (bytes .entry) ⌝ }
+        ensures lender { λ r. ⌜ lent (r .bytes) ≡ lent (bytes .entry) ⌝ }
+    {
+        PlainCard { bytes }
+    }
+}
+
+pub impl Card for PlainCard<'_> as PlainCardCard {
+    ghost meaning = { λ c. plain (now (c .bytes)) };
+
+    ghost sound = { λ c. plain-sound (now (c .bytes)) };
+
+    ghost lenders = { λ c. lent (c .bytes) };
+
+    fn blocks(&self) -> usize {
+        (self.bytes.len() / BLOCK_SIZE).min(MOST_BLOCKS)
+    }
+
+    fn read(&self, b: usize, buffer: &mut [u8]) -> Result<(), Fault> {
+        admit(self.blocks(), b, buffer.len())?;
+        get_block(self.bytes, b, buffer);
+        Ok(())
+    }
+
+    fn write(&mut self, b: usize, bytes: &[u8]) -> Result<(), Fault>
+        ensures value { λ r. ⌜ r ≡ answer (plain (now (now (self .entry) .bytes)) .size) b (length (now (bytes .entry))) ⌝ }
+        ensures card { λ r. ⌜ Written r (plain (now (now (self .entry) .bytes))) b (now (bytes .entry)) (plain (now (now (self .exit) .bytes))) ⌝ }
+        ensures lender { λ _. ⌜ lent (now (self .exit) .bytes) ≡ lent (now (self .entry) .bytes) ⌝ }
+        ensures exact { λ r. ⌜ now (now (self .exit) .bytes) ≡ cond (isOk r) (put-block (now (now (self .entry) .bytes)) b (now (bytes .entry))) (now (now (self .entry) .bytes)) ⌝ }
+    {
+        admit(self.blocks(), b, bytes.len())?;
+        put_block(self.bytes, b, bytes);
+        Ok(())
+    }
+
+    fn barrier(&mut self)
+        ensures card { λ _. ⌜ Flushed (plain (now (now (self .entry) .bytes))) (plain (now (now (self .exit) .bytes))) ⌝ }
+        ensures lender { λ _. ⌜ lent (now (self .exit) .bytes) ≡ lent (now (self .entry) .bytes) ⌝ }
+        ensures exact { λ _. ⌜ now (now (self .exit) .bytes) ≡ now (now (self .entry) .bytes) ⌝ }
+    {
+    }
+
+    fn lose_power(&mut self, _pattern: u64)
+        ensures card { λ _. ⌜ Lost (plain (now (now (self .entry) .bytes))) (plain (now (now (self .exit) .bytes))) ⌝ }
+        ensures lender { λ _. ⌜ lent (now (self .exit) .bytes) ≡ lent (now (self .entry) .bytes) ⌝ }
+        ensures exact { λ _. ⌜ now (now (self .exit) .bytes) ≡ now (now (self .entry) .bytes) ⌝ }
+    {
+    }
+}
