@@ -1,4 +1,6 @@
 pub mod Admitted
 pub mod BlockLaws
 pub mod PlainLaws
+pub mod ShelfLaws
+pub mod ShelfPlaces
 pub mod WriteBackLaws

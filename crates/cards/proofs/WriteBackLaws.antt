@@ -73,7 +73,7 @@ put-more f xs ys b from to lt way is mid =
     let n = pairs xs in
     let same = mid .size in
     let apart : (k : ℕ) → k < n → (k ≡ b → ⊥) → (k ≡ to → ⊥) × (n + k ≡ to → ⊥) =
-        λ k l ne. ⊎-elim (λ w. (λ e. ne (omega arith), λ e. omega arith)) (λ w. (λ e. omega arith, λ e. ne (omega arith))) way in
+    λ k l ne. ⊎-elim (λ w. (λ e. ne (omega arith), λ e. omega arith)) (λ w. (λ e. omega arith, λ e. ne (omega arith))) way in
     let inside : from * 512 + 512 ≤ length ys = ⊎-elim (λ w. omega arith) (λ w. omega arith) way in
     let within : to * 512 + 512 ≤ length ys = ⊎-elim (λ w. omega arith) (λ w. omega arith) way in
     let early : to * 512 + 512 ≤ n * 1024 = ⊎-elim (λ w. omega arith) (λ w. omega arith) way in

@@ -3,6 +3,8 @@ pub mod Blocks
 pub mod Faults
 pub mod Lenders
 pub mod Meanings
+pub mod OnShelf
 pub mod PlainCards
+pub mod Shelves
 pub mod SoundCards
 pub mod WriteBackCards

@@ -2,14 +2,20 @@
 -- implementations cite them.
 use mathlib.Core.Path.{_≡_, refl, ap, _∙_}
 use mathlib.Core.Logic.{inl, ⊎-elim}
-use mathlib.Core.List.{List}
+use mathlib.Core.Bool.{true, false, cond}
+use mathlib.Core.List.{List, [], _∷_}
 use Prim.Native.Nat.{ℕ, _+_, _*_, _≤_}
 use native.Mathlib.Omega.{arith}
-use lib.ListN.{length, length-take, length-drop}
+use lib.Dec.{eqb}
+use lib.ListN.{length, take, length-take, length-drop}
 use Rattle.cards.specs.Blocks.{block-at}
-use Rattle.cards.specs.Meanings.{Sound}
+use Rattle.cards.specs.Meanings.{Content, Meaning, In, Sound}
+use Rattle.cards.specs.OnShelf.{held-of, shelf-of}
 use Rattle.cards.specs.PlainCards.{plain}
+use Rattle.cards.specs.Shelves.{laid}
 use Rattle.cards.specs.WriteBackCards.{pairs, write-back}
+use Rattle.cards.specs.declared.place.Place.{Place}
+use Rattle.cards.specs.declared.shelf.Shelf.{Shelf}
 
 -- a block that lies in the run has 512 bytes
 pub length-block : (xs : List ℕ) (p : ℕ) → p * 512 + 512 ≤ length xs → length (block-at xs p) ≡ 512
@@ -30,3 +36,32 @@ write-back-sound xs = record {
       ⊎-elim (λ is. ap length is ∙ length-block xs (pairs xs + b) (omega arith))
       (⊎-elim (λ is. ap length is ∙ length-block xs b (omega arith)) (λ none. absurd none));
 }
+
+-- ---- what lies on a shelf has 512 bytes, and what is present on it is in doubt
+laid-held : (ps : List Place) (b : ℕ) (x : Content) (d : List Content) → In x d → In (laid (λ c y. c) (held-of ps) b x) (laid _∷_ (held-of ps) b d)
+laid-held [] b x d h = h
+laid-held (p ∷ ps) b x d h =
+    laid-held ps b _ _
+    (elim (eqb (p .block) b) as (λ t. In (cond t (p .bytes) x) (cond t (p .bytes ∷ d) d)) [ true ↦ inl refl | false ↦ h ])
+
+AllWhole : List Content → Type 0
+AllWhole d = (x : Content) → In x d → length x ≡ 512
+
+laid-whole : (ps : List Place) (b : ℕ) (d : List Content) → AllWhole d → AllWhole (laid _∷_ (held-of ps) b d)
+unfolding AllWhole
+laid-whole [] b d h = h
+laid-whole (p ∷ ps) b d h =
+    laid-whole ps b _
+    (elim (eqb (p .block) b) as (λ t. AllWhole (cond t (p .bytes ∷ d) d)) [ true ↦ λ x. ⊎-elim (λ is. ap length is ∙ p .whole) (h x) | false ↦ h ])
+
+pub shelf-sound : {C : Type 0} (meaning : C → Meaning) → ((c : C) → Sound (meaning c)) → (s : Shelf C) → Sound (shelf-of meaning s)
+unfolding AllWhole
+shelf-sound meaning sound s =
+    let m = meaning (s .card) in
+    let ok = sound (s .card) in
+    let ps = take (s .used) (s .places) in
+    record {
+      few = ok .few;
+      held = λ b lt. laid-held ps b (m .present b) (m .doubt b) (ok .held b lt);
+      whole = λ b x lt. laid-whole ps b (m .doubt b) (λ y. ok .whole b y lt) x;
+    }

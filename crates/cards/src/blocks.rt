@@ -49,5 +49,8 @@ pub(crate) fn copy_block(bytes: &mut [u8], from: usize, to: usize)
     requires to_within { ⌜ to * 512 + 512 ≤ length (now bytes) ⌝ }
     ensures { λ _. ⌜ now (bytes .exit) ≡ put-block (now (bytes .entry)) to (block-at (now (bytes .entry)) from) ⌝ }
 {
-    bytes.copy_within(from * BLOCK_SIZE..from * BLOCK_SIZE + BLOCK_SIZE, to * BLOCK_SIZE);
+    bytes.copy_within(
+        from * BLOCK_SIZE..from * BLOCK_SIZE + BLOCK_SIZE,
+        to * BLOCK_SIZE,
+    );
 }

@@ -2,5 +2,7 @@
 mod blocks;
 pub mod card;
 pub mod fault;
+mod place;
 pub mod plain;
+pub mod shelf;
 pub mod write_back;

@@ -65,13 +65,11 @@ pub impl Card for PlainCard<'_> as PlainCardCard {
         ensures card { λ _. ⌜ Flushed (plain (now (now (self .entry) .bytes))) (plain (now (now (self .exit) .bytes))) ⌝ }
         ensures lender { λ _. ⌜ lent (now (self .exit) .bytes) ≡ lent (now (self .entry) .bytes) ⌝ }
         ensures exact { λ _. ⌜ now (now (self .exit) .bytes) ≡ now (now (self .entry) .bytes) ⌝ }
-    {
-    }
+    {}
 
     fn lose_power(&mut self, _pattern: u64)
         ensures card { λ _. ⌜ Lost (plain (now (now (self .entry) .bytes))) (plain (now (now (self .exit) .bytes))) ⌝ }
         ensures lender { λ _. ⌜ lent (now (self .exit) .bytes) ≡ lent (now (self .entry) .bytes) ⌝ }
         ensures exact { λ _. ⌜ now (now (self .exit) .bytes) ≡ now (now (self .entry) .bytes) ⌝ }
-    {
-    }
+    {}
 }

@@ -1,0 +1,258 @@
+-- What a shelf makes of the card below, and what its writes, barriers and losses make of that.
+use mathlib.Core.Path.{_≡_, refl, sym, ap, subst, _∙_}
+use mathlib.Core.Bool.{Bool, true, false, cond}
+use mathlib.Core.Logic.{_⊎_, inl, inr, ⊎-elim}
+use mathlib.Core.List.{List, [], _∷_, _++_}
+use Prim.Native.Nat.{ℕ, zero, suc, _+_, _<_, _≤_}
+use native.Mathlib.Omega.{arith}
+use lib.Dec.{eqb, ltb}
+use lib.ListN.{length, getD, set}
+use Rattle.std.proofs.shelf.Tests.{cases-eq, cond-true, cond-false, eq-eqb, ne-eqb, eqb-true, false≢true}
+use Rattle.std.specs.Options.{isSome}
+use Rattle.std.specs.declared.option.Option.{Option}
+use Rattle.std.specs.declared.option.Option.the-variants.{Some, None}
+use Rattle.std.specs.declared.result.Result.{Result}
+use Rattle.std.specs.declared.result.Result.the-variants.{Ok, Err}
+use Rattle.cards.specs.declared.fault.Fault.{Fault}
+use Rattle.cards.specs.Answers.{answer, Written}
+use Rattle.cards.specs.Meanings.{Content, Meaning, In, Wrote, Flushed, Lost}
+use Rattle.cards.specs.OnShelf.{held-of}
+use Rattle.cards.specs.declared.place.Place.{Place}
+use Rattle.cards.proofs.Admitted.{refused-past}
+use Rattle.cards.specs.Shelves.{Held, laid, shelved, place-from, place-of, stored-at, stored, spilled-at, spilled, WroteAll, WroteAllFlushed}
+
+-- ---- writes to the card below
+pub wrote-push : (hs : List Held) (m n o : Meaning) (h : Held) → WroteAll hs m n → Written (answer (n .size) (h .0) (length (h .1))) n (h .0) (h .1) o → WroteAll (hs ++ h ∷ []) m o
+wrote-push [] m n o h is w = (o, subst (λ n. Written (answer (n .size) (h .0) (length (h .1))) n (h .0) (h .1) o) is w, refl)
+wrote-push (g ∷ hs) m n o h w v = (w .0, w .1, wrote-push hs (w .0) n o h (w .2) v)
+
+-- ---- where a block's place is
+not-some : {i : ℕ} → None ≡ Some i → ⊥
+not-some {i} e = false≢true (ap isSome e)
+
+absent-parts : (t : Bool) (o : Option ℕ) → place-from t o ≡ None → (t ≡ false) × (o ≡ None)
+absent-parts t (Some i) e = absurd (not-some (sym e))
+absent-parts true None e = absurd (not-some (sym e))
+absent-parts false None e = (refl, refl)
+
+-- at the head, with none behind it, or behind the head
+present-parts : (t : Bool) (o : Option ℕ) (i : ℕ) → place-from t o ≡ Some i → ((t ≡ true) × (o ≡ None) × (i ≡ 0)) ⊎ ((j : ℕ) × (o ≡ Some j) × (i ≡ suc j))
+present-parts t (Some j) i e = inr (j, refl, cc)
+present-parts true None i e = inl (refl, refl, cc)
+present-parts false None i e = absurd (not-some e)
+
+-- ---- what the places lay on a block
+module _ {A : Type 0} (f : Content → A → A) where
+  -- a place of block b, and one of another block
+  on : (hs : List Held) (h : Held) (b : ℕ) (x : A) → eqb (h .0) b ≡ true → laid f (h ∷ hs) b x ≡ laid f hs b (f (h .1) x)
+  on hs h b x e = ap (laid f hs b) (cond-true (eqb (h .0) b) (f (h .1) x) x e)
+
+  off : (hs : List Held) (h : Held) (b : ℕ) (x : A) → eqb (h .0) b ≡ false → laid f (h ∷ hs) b x ≡ laid f hs b x
+  off hs h b x e = ap (laid f hs b) (cond-false (eqb (h .0) b) (f (h .1) x) x e)
+
+  laid-absent : (hs : List Held) (b : ℕ) (x : A) → place-of hs b ≡ None → laid f hs b x ≡ x
+  laid-absent [] b x e = refl
+  laid-absent (h ∷ hs) b x e =
+      let parts = absent-parts (eqb (h .0) b) (place-of hs b) e in
+      off hs h b x (parts .0) ∙ laid-absent hs b x (parts .1)
+
+  -- the block's place is the head, with none behind it
+  laid-head : (hs : List Held) (h : Held) (b : ℕ) (x : A) → eqb (h .0) b ≡ true → place-of hs b ≡ None → laid f (h ∷ hs) b x ≡ f (h .1) x
+  laid-head hs h b x e none = on hs h b x e ∙ laid-absent hs b (f (h .1) x) none
+
+  -- a change of block b's place does not touch another block
+  laid-set-other : (hs : List Held) (b i k : ℕ) (c : Content) (x : A) → (k ≡ b → ⊥) → place-of hs b ≡ Some i → laid f (set hs i (b, c)) k x ≡ laid f hs k x
+  laid-set-other [] b i k c x ne e = absurd (not-some e)
+  laid-set-other (h ∷ hs) b i k c x ne e = elim (present-parts (eqb (h .0) b) (place-of hs b) i e) [
+    | inl head ↦
+        ap (λ i. laid f (set (h ∷ hs) i (b, c)) k x) (head .2)
+        ∙ off hs (b, c) k x (ne-eqb b k (λ e. ne (sym e)))
+        ∙ sym (off hs h k x (ne-eqb (h .0) k (λ e. ne (sym e ∙ eqb-true (h .0) b (head .0)))))
+    | inr behind ↦
+        ap (λ i. laid f (set (h ∷ hs) i (b, c)) k x) (behind .2)
+        ∙ laid-set-other hs b (behind .0) k c _ ne (behind .1)
+  ]
+
+  -- one place more, of block b
+  laid-push : (hs : List Held) (h : Held) (b : ℕ) (x : A) → laid f (hs ++ h ∷ []) b x ≡ cond (eqb (h .0) b) (f (h .1) (laid f hs b x)) (laid f hs b x)
+  laid-push [] h b x = refl
+  laid-push (g ∷ hs) h b x = laid-push hs h b _
+
+  laid-more : (hs : List Held) (b : ℕ) (c : Content) (x : A) → laid f (hs ++ (b, c) ∷ []) b x ≡ f c (laid f hs b x)
+  laid-more hs b c x = laid-push hs (b, c) b x ∙ cond-true (eqb b b) _ _ (eq-eqb b b refl)
+
+  laid-more-other : (hs : List Held) (b k : ℕ) (c : Content) (x : A) → (k ≡ b → ⊥) → laid f (hs ++ (b, c) ∷ []) k x ≡ laid f hs k x
+  laid-more-other hs b k c x ne = laid-push hs (b, c) k x ∙ cond-false (eqb b k) _ _ (ne-eqb b k (λ e. ne (sym e)))
+
+-- the present content under the places
+abbrev over : List Held → ℕ → Content → Content
+over hs b x = laid (λ c y. c) hs b x
+
+pub over-at : (hs : List Held) (b i : ℕ) (x : Content) → place-of hs b ≡ Some i → over hs b x ≡ getD hs i (0, []) .1
+over-at [] b i x e = absurd (not-some e)
+over-at (h ∷ hs) b i x e = elim (present-parts (eqb (h .0) b) (place-of hs b) i e) [
+  | inl head ↦ laid-head (λ c y. c) hs h b x (head .0) (head .1) ∙ ap (λ i. getD (h ∷ hs) i (0, []) .1) (sym (head .2))
+  | inr behind ↦ over-at hs b (behind .0) _ (behind .1) ∙ ap (λ i. getD (h ∷ hs) i (0, []) .1) (sym (behind .2))
+]
+
+pub over-absent : (hs : List Held) (b : ℕ) (x : Content) → place-of hs b ≡ None → over hs b x ≡ x
+over-absent hs b x e = laid-absent (λ c y. c) hs b x e
+
+over-set : (hs : List Held) (b i : ℕ) (c x : Content) → place-of hs b ≡ Some i → over (set hs i (b, c)) b x ≡ c
+over-set [] b i c x e = absurd (not-some e)
+over-set (h ∷ hs) b i c x e = elim (present-parts (eqb (h .0) b) (place-of hs b) i e) [
+  | inl head ↦ ap (λ i. over (set (h ∷ hs) i (b, c)) b x) (head .2) ∙ laid-head (λ c y. c) hs (b, c) b x (eq-eqb b b refl) (head .1)
+  | inr behind ↦ ap (λ i. over (set (h ∷ hs) i (b, c)) b x) (behind .2) ∙ over-set hs b (behind .0) c _ (behind .1)
+]
+
+-- the contents in doubt under the places
+abbrev doubts : List Held → ℕ → List Content → List Content
+doubts hs b d = laid _∷_ hs b d
+
+doubts-set : (hs : List Held) (b i : ℕ) (c y : Content) (d : List Content) → place-of hs b ≡ Some i → In y (doubts (set hs i (b, c)) b d) → In y (c ∷ doubts hs b d)
+doubts-set [] b i c y d e h = absurd (not-some e)
+doubts-set (g ∷ hs) b i c y d e h = elim (present-parts (eqb (g .0) b) (place-of hs b) i e) [
+  | inl head ↦
+      let new = ap (λ i. doubts (set (g ∷ hs) i (b, c)) b d) (head .2) ∙ laid-head _∷_ hs (b, c) b d (eq-eqb b b refl) (head .1) in
+      ⊎-elim inl (λ old. inr (subst (In y) (sym (laid-head _∷_ hs g b d (head .0) (head .1))) (inr old))) (subst (In y) new h)
+  | inr behind ↦ doubts-set hs b (behind .0) c y _ (behind .1) (subst (In y) (ap (λ i. doubts (set (g ∷ hs) i (b, c)) b d) (behind .2)) h)
+]
+
+cond-mono : (t : Bool) (y z : Content) (d e : List Content) → (In y d → In y e) → In y (cond t (z ∷ d) d) → In y (cond t (z ∷ e) e)
+cond-mono true y z d e f h = ⊎-elim inl (λ i. inr (f i)) h
+cond-mono false y z d e f h = f h
+
+doubts-mono : (hs : List Held) (b : ℕ) (y : Content) (d e : List Content) → (In y d → In y e) → In y (doubts hs b d) → In y (doubts hs b e)
+doubts-mono [] b y d e f h = f h
+doubts-mono (g ∷ hs) b y d e f h = doubts-mono hs b y _ _ (cond-mono (eqb (g .0) b) y (g .1) d e f) h
+
+cond-more : (t : Bool) (y z : Content) (d : List Content) → In y d → In y (cond t (z ∷ d) d)
+cond-more true y z d h = inr h
+cond-more false y z d h = h
+
+doubts-more : (hs : List Held) (b : ℕ) (y : Content) (d : List Content) → In y d → In y (doubts hs b d)
+doubts-more [] b y d h = h
+doubts-more (g ∷ hs) b y d h = doubts-more hs b y _ (cond-more (eqb (g .0) b) y (g .1) d h)
+
+-- ---- a place changed, and one place more
+replaced : (m : Meaning) (hs : List Held) (b i : ℕ) (c : Content) → place-of hs b ≡ Some i → Wrote (shelved m hs) b c (shelved m (set hs i (b, c)))
+replaced m hs b i c e = record {
+  size = refl;
+  here = over-set hs b i c (m .present b) e;
+  there = λ k lt ne. laid-set-other (λ c y. c) hs b i k c (m .present k) ne e;
+  doubt-here = λ y h. doubts-set hs b i c y (m .doubt b) e h;
+  doubt-there = λ k y lt ne h. subst (In y) (laid-set-other _∷_ hs b i k c (m .doubt k) ne e) h;
+}
+
+added : (m : Meaning) (hs : List Held) (b : ℕ) (c : Content) → Wrote (shelved m hs) b c (shelved m (hs ++ (b, c) ∷ []))
+added m hs b c = record {
+  size = refl;
+  here = laid-more (λ c y. c) hs b c (m .present b);
+  there = λ k lt ne. laid-more-other (λ c y. c) hs b k c (m .present k) ne;
+  doubt-here = λ y h. subst (In y) (laid-more _∷_ hs b c (m .doubt b)) h;
+  doubt-there = λ k y lt ne h. subst (In y) (laid-more-other _∷_ hs b k c (m .doubt k) ne) h;
+}
+
+-- ---- places written below: the same contents are present, and no more are in doubt
+pub record Eased (m n : Meaning) : Type 0 where
+  pub size : n .size ≡ m .size
+  pub present : (b : ℕ) → b < m .size → n .present b ≡ m .present b
+  pub fewer : (b : ℕ) (y : Content) → b < m .size → In y (n .doubt b) → In y (m .doubt b)
+
+eased-same : (m n : Meaning) → n ≡ m → Eased m n
+eased-same m n is = subst (Eased m) (sym is) (record { size = refl; present = λ b lt. refl; fewer = λ b y lt h. h })
+
+eased-trans : (m n o : Meaning) → Eased m n → Eased n o → Eased m o
+eased-trans m n o f g =
+    let within : (b : ℕ) → b < m .size → b < n .size = λ b lt. omega (arith, f .size) in
+    record {
+      size = g .size ∙ f .size;
+      present = λ b lt. g .present b (within b lt) ∙ f .present b lt;
+      fewer = λ b y lt h. f .fewer b y lt (g .fewer b y (within b lt) h);
+    }
+
+eased-under : (m n : Meaning) (h : Held) (hs : List Held) → Eased (shelved m (h ∷ [])) n → Eased (shelved m (h ∷ hs)) (shelved n hs)
+eased-under m n h hs f = record {
+  size = f .size;
+  present = λ b lt. ap (over hs b) (f .present b lt);
+  fewer = λ b y lt. doubts-mono hs b y (n .doubt b) _ (f .fewer b y lt);
+}
+
+one-eased : (m n : Meaning) (p : Place) (r : Result (Unit {0}) Fault) → r ≡ answer (m .size) (p .block) (length (p .bytes)) → Written r m (p .block) (p .bytes) n → Eased (shelved m ((p .block, p .bytes) ∷ [])) n
+one-eased m n p (Ok u) e w = record {
+  size = w .size;
+  present = λ b lt. elim (cases-eq (p .block) b) [
+    | inl is ↦ ap (n .present) (sym is) ∙ w .here ∙ sym (on (λ c y. c) [] (p .block, p .bytes) b (m .present b) (eq-eqb (p .block) b is))
+    | inr ne ↦ w .there b lt (λ is. ne (sym is)) ∙ sym (off (λ c y. c) [] (p .block, p .bytes) b (m .present b) (ne-eqb (p .block) b ne))
+  ];
+  fewer = λ b y lt h. elim (cases-eq (p .block) b) [
+    | inl is ↦
+        subst (In y) (sym (on _∷_ [] (p .block, p .bytes) b (m .doubt b) (eq-eqb (p .block) b is)))
+        (subst (λ k. In y (p .bytes ∷ m .doubt k)) is (w .doubt-here y (subst (λ k. In y (n .doubt k)) (sym is) h)))
+    | inr ne ↦
+        subst (In y) (sym (off _∷_ [] (p .block, p .bytes) b (m .doubt b) (ne-eqb (p .block) b ne)))
+        (w .doubt-there b y lt (λ is. ne (sym is)) h)
+  ];
+}
+one-eased m n p (Err f) e is =
+    let past : m .size ≤ p .block = refused-past (m .size) (p .block) (length (p .bytes)) f (p .whole) e in
+    let none : (b : ℕ) → b < m .size → eqb (p .block) b ≡ false = λ b lt. ne-eqb (p .block) b (λ is. omega arith) in
+    eased-trans (shelved m ((p .block, p .bytes) ∷ [])) m n
+    (record {
+      size = refl;
+      present = λ b lt. sym (off (λ c y. c) [] (p .block, p .bytes) b (m .present b) (none b lt));
+      fewer = λ b y lt h. subst (In y) (sym (off _∷_ [] (p .block, p .bytes) b (m .doubt b) (none b lt))) h;
+    })
+    (eased-same m n is)
+
+eased-all : (ps : List Place) (m n : Meaning) → WroteAll (held-of ps) m n → Eased (shelved m (held-of ps)) n
+eased-all [] m n is = eased-same m n is
+eased-all (p ∷ ps) m n w =
+    let k = w .0 in
+    eased-trans (shelved m (held-of (p ∷ ps))) (shelved k (held-of ps)) n
+    (eased-under m k (p .block, p .bytes) (held-of ps) (one-eased m k p _ refl (w .1)))
+    (eased-all ps k n (w .2))
+
+-- ---- a write, a barrier and a loss
+eased-wrote : (m n o : Meaning) (b : ℕ) (c : Content) → b < m .size → Eased m n → Wrote n b c o → Wrote m b c o
+eased-wrote m n o b c lt f w =
+    let within : (k : ℕ) → k < m .size → k < n .size = λ k l. omega (arith, f .size) in
+    record {
+      size = w .size ∙ f .size;
+      here = w .here;
+      there = λ k l ne. w .there k (within k l) ne ∙ f .present k l;
+      doubt-here = λ y h. ⊎-elim inl (λ i. inr (f .fewer b y lt i)) (w .doubt-here y h);
+      doubt-there = λ k y l ne h. f .fewer k y l (w .doubt-there k y (within k l) ne h);
+    }
+
+spilled-eased : (t : Bool) (ps : List Place) (m n : Meaning) → WroteAll (cond t [] (held-of ps)) m n → Eased (shelved m (held-of ps)) (shelved n (cond t (held-of ps) []))
+spilled-eased true ps m n is = eased-same _ _ (ap (λ k. shelved k (held-of ps)) is)
+spilled-eased false ps m n w = eased-all ps m n w
+
+wrote-at : (o : Option ℕ) (ps : List Place) (m n : Meaning) (b : ℕ) (c : Content) → place-of (held-of ps) b ≡ o → b < m .size → WroteAll (spilled-at o (held-of ps)) m n
+    → Wrote (shelved m (held-of ps)) b c (shelved n (stored-at o (held-of ps) b c))
+wrote-at (Some i) ps m n b c e lt is = subst (λ k. Wrote (shelved m (held-of ps)) b c (shelved k (set (held-of ps) i (b, c)))) (sym is) (replaced m (held-of ps) b i c e)
+wrote-at None ps m n b c e lt w =
+    let room = ltb (length (held-of ps)) 4 in
+    eased-wrote _ (shelved n (cond room (held-of ps) [])) _ b c lt (spilled-eased room ps m n w) (added n (cond room (held-of ps) []) b c)
+
+pub shelf-wrote : (ps : List Place) (m n : Meaning) (hs : List Held) (b : ℕ) (c : Content) → b < m .size → WroteAll (spilled (held-of ps) b) m n → hs ≡ stored (held-of ps) b c
+    → Wrote (shelved m (held-of ps)) b c (shelved n hs)
+shelf-wrote ps m n hs b c lt w is = subst (λ hs. Wrote (shelved m (held-of ps)) b c (shelved n hs)) (sym is) (wrote-at _ ps m n b c refl lt w)
+
+pub shelf-flushed : (ps : List Place) (m n : Meaning) → WroteAllFlushed (held-of ps) m n → Flushed (shelved m (held-of ps)) (shelved n [])
+shelf-flushed ps m n w =
+    let f = eased-all ps m (w .0) (w .1) in
+    let within : (b : ℕ) → b < m .size → b < w .0 .size = λ b lt. omega (arith, f .size) in
+    record {
+      size = w .2 .size ∙ f .size;
+      present = λ b lt. w .2 .present b (within b lt) ∙ f .present b lt;
+      settled = λ b y lt h. w .2 .settled b y (within b lt) h;
+    }
+
+pub shelf-lost : (hs : List Held) (m n : Meaning) → Lost m n → Lost (shelved m hs) (shelved n [])
+shelf-lost hs m n l = record {
+  size = l .size;
+  present = λ b lt. doubts-more hs b (n .present b) (m .doubt b) (l .present b lt);
+  settled = λ b y lt h. l .settled b y lt h;
+}

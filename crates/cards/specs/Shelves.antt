@@ -1,0 +1,65 @@
+-- The shelf: a few writes held back before a card. It has four places; a place holds a block number and a content.
+use mathlib.Core.Path.{_≡_}
+use mathlib.Core.Bool.{Bool, true, false, cond}
+use mathlib.Core.List.{List, [], _∷_, _++_}
+use Prim.Native.Nat.{ℕ, suc}
+use lib.Dec.{eqb, ltb}
+use lib.ListN.{length, set}
+use Rattle.std.specs.declared.option.Option.{Option}
+use Rattle.std.specs.declared.option.Option.the-variants.{Some, None}
+use Rattle.cards.specs.Answers.{answer, Written}
+use Rattle.cards.specs.Meanings.{Content, Meaning, Flushed}
+
+-- what a place in use holds
+abbrev pub Held : Type 0
+Held = ℕ × Content
+
+-- x, with what the places hold of block b put upon it by f, in place order
+abbrev pub laid : {A : Type 0} → (Content → A → A) → List Held → ℕ → A → A
+laid f [] b x = x
+laid f (h ∷ hs) b x = laid f hs b (cond (eqb (h .0) b) (f (h .1) x) x)
+
+-- A shelf that holds hs before a card that means m. A block on the shelf is present with its place's bytes, and its doubt
+-- is the doubt below with those bytes added.
+abbrev pub shelved : Meaning → List Held → Meaning
+shelved m hs = record {
+  size = m .size;
+  present = λ b. laid (λ c x. c) hs b (m .present b);
+  doubt = λ b. laid _∷_ hs b (m .doubt b);
+}
+
+-- the place of block b, the last if there are several; one behind the head of a list if there is one, else the head
+abbrev pub place-from : Bool → Option ℕ → Option ℕ
+place-from t (Some i) = Some (suc i)
+place-from true None = Some 0
+place-from false None = None
+
+abbrev pub place-of : List Held → ℕ → Option ℕ
+place-of [] b = None
+place-of (h ∷ hs) b = place-from (eqb (h .0) b) (place-of hs b)
+
+-- what the places hold after a write of c to block b: it replaces the block's place, or takes the next of four, and a
+-- shelf with four other blocks is emptied first
+abbrev pub stored-at : Option ℕ → List Held → ℕ → Content → List Held
+stored-at (Some i) hs b c = set hs i (b, c)
+stored-at None hs b c = cond (ltb (length hs) 4) hs [] ++ (b, c) ∷ []
+
+abbrev pub stored : List Held → ℕ → Content → List Held
+stored hs b c = stored-at (place-of hs b) hs b c
+
+-- what such a write first writes to the card below
+abbrev pub spilled-at : Option ℕ → List Held → List Held
+spilled-at (Some i) hs = []
+spilled-at None hs = cond (ltb (length hs) 4) [] hs
+
+abbrev pub spilled : List Held → ℕ → List Held
+spilled hs b = spilled-at (place-of hs b) hs
+
+-- the card below went from m to n by one write for each place, in place order, and by nothing else
+abbrev pub WroteAll : List Held → Meaning → Meaning → Type 0
+WroteAll [] m n = n ≡ m
+WroteAll (h ∷ hs) m n = (k : Meaning) × Written (answer (m .size) (h .0) (length (h .1))) m (h .0) (h .1) k × WroteAll hs k n
+
+-- and then by a barrier
+abbrev pub WroteAllFlushed : List Held → Meaning → Meaning → Type 0
+WroteAllFlushed hs m n = (k : Meaning) × WroteAll hs m k × Flushed k n

@@ -1,0 +1,32 @@
+// One place of a shelf.
+ghost use mathlib.Core.Path.{_≡_};
+ghost use lib.ListN.{length};
+use crate::card::BLOCK_SIZE;
+
+// A block number and the block's bytes.
+#[derive(Clone, Copy)]
+pub struct Place {
+    pub block: usize,
+    pub bytes: [u8; BLOCK_SIZE],
+    ghost whole: { length bytes ≡ 512 },
+}
+
+impl Place {
+    // A place before its first use.
+    pub fn new() -> Place {
+        Place {
+            block: 0,
+            bytes: [0; BLOCK_SIZE],
+        }
+    }
+
+    // Takes up these bytes for block b.
+    pub fn store(&mut self, b: usize, bytes: &[u8])
+        requires { ⌜ length (now bytes) ≡ 512 ⌝ }
+        ensures block { λ _. ⌜ now (self .exit) .block ≡ b ⌝ }
+        ensures bytes { λ _. ⌜ now (self .exit) .bytes ≡ now (bytes .entry) ⌝ }
+    {
+        self.block = b;
+        self.bytes.copy_from_slice(bytes);
+    }
+}
