@@ -2,10 +2,10 @@
 use mathlib.Core.Path.{_≡_, sym, ap, subst, _∙_}
 use mathlib.Core.Logic.{inl, ⊎-elim}
 use mathlib.Core.List.{List}
-use Prim.Native.Nat.{ℕ, _≤_, _+_, _*_, _/_, _<_, min}
+use Prim.Native.Nat.{ℕ, _≤_, _+_, _*_, _<_}
 use native.Mathlib.Omega.{arith}
 use lib.ListN.{length}
-use Rattle.cards.specs.Blocks.{put-block}
+use Rattle.cards.specs.Blocks.{shown-blocks, put-block}
 use Rattle.cards.specs.Meanings.{Wrote}
 use Rattle.cards.specs.PlainCards.{plain}
 use Rattle.cards.proofs.BlockLaws.{block-put, block-put-other, length-put}
@@ -16,7 +16,7 @@ put-wrote xs c b whole lt =
     let here = block-put xs c b whole within in
     let other = block-put-other xs c b whole within in
     record {
-      size = ap (λ n. min (n / 512) 65535) (length-put xs c b whole within);
+      size = ap (λ n. shown-blocks n 512) (length-put xs c b whole within);
       here = here;
       there = λ k l ne. other k ne;
       doubt-here = λ x. ⊎-elim (λ is. inl (is ∙ here)) (λ none. absurd none);

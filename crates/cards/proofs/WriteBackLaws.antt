@@ -3,21 +3,21 @@ use mathlib.Core.Path.{_≡_, refl, sym, ap, subst, _∙_}
 use mathlib.Core.Logic.{_⊎_, inl, inr, ⊎-elim}
 use mathlib.Core.Bool.{Bool, true, false, cond, _&&_}
 use mathlib.Core.List.{List}
-use Prim.Native.Nat.{ℕ, zero, suc, _≤_, _<_, _+_, _-_, _*_, _/_, _%_, _^_, min}
+use Prim.Native.Nat.{ℕ, zero, suc, _≤_, _<_, _+_, _-_, _*_, _/_, _%_, _^_}
 use native.Mathlib.Omega.{arith}
 use lib.Dec.{eqb}
 use lib.ListN.{length, drop}
 use borrow.Author.Count.{below-more}
 use Rattle.std.proofs.shelf.Tests.{eq-eqb, cond-true, cond-false}
 use Rattle.std.proofs.shelf.Ways.{decides-below-and, decides-eqb}
-use Rattle.cards.specs.Blocks.{block-at, put-block}
+use Rattle.cards.specs.Blocks.{shown-blocks, block-at, put-block}
 use Rattle.cards.specs.Meanings.{Content, Wrote, Flushed, Lost, In}
 use Rattle.cards.specs.SoundCards.{length-block}
 use Rattle.cards.specs.WriteBackCards.{pairs, kept, fresh, write-back, spared, left-of, Settled}
 use Rattle.cards.proofs.BlockLaws.{block-put, block-put-other, drop-put, length-put}
 
 same-pairs : (xs ys : List ℕ) → length ys ≡ length xs → pairs ys ≡ pairs xs
-same-pairs xs ys e = ap (λ n. min (n / 1024) 65535) e
+same-pairs xs ys e = ap (λ n. shown-blocks n 1024) e
 
 fresh-at : (xs ys : List ℕ) (b : ℕ) → length ys ≡ length xs → fresh ys b ≡ block-at ys (pairs xs + b)
 fresh-at xs ys b e = ap (λ n. block-at ys (n + b)) (same-pairs xs ys e)

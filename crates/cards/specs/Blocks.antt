@@ -1,7 +1,11 @@
 -- Bytes as a run of blocks of 512 bytes, one after another.
 use mathlib.Core.List.{List, _++_}
-use Prim.Native.Nat.{ℕ, _+_, _*_}
+use Prim.Native.Nat.{ℕ, _+_, _*_, _/_, min}
 use lib.ListN.{take, drop}
+
+-- how many blocks a card shows of memory of this length, at so many bytes for each: at most 65,535
+abbrev pub shown-blocks : ℕ → ℕ → ℕ
+shown-blocks length each = min (length / each) 65535
 
 -- the block at place p
 abbrev pub block-at : List ℕ → ℕ → List ℕ

@@ -3,15 +3,15 @@
 use mathlib.Core.Path.{_≡_}
 use mathlib.Core.Bool.{Bool, cond}
 use mathlib.Core.List.{List, [], _∷_}
-use Prim.Native.Nat.{ℕ, _+_, _*_, _/_, _%_, _^_, _<_, min}
+use Prim.Native.Nat.{ℕ, _+_, _*_, _/_, _%_, _^_, _<_}
 use lib.Dec.{eqb}
 use lib.ListN.{length, drop}
-use Rattle.cards.specs.Blocks.{block-at}
+use Rattle.cards.specs.Blocks.{shown-blocks, block-at}
 use Rattle.cards.specs.Meanings.{Content, Meaning}
 
 -- the number of blocks, each a pair of copies
 abbrev pub pairs : List ℕ → ℕ
-pairs xs = min (length xs / 1024) 65535
+pairs xs = shown-blocks (length xs) 1024
 
 abbrev pub kept : List ℕ → ℕ → Content
 kept xs b = block-at xs b

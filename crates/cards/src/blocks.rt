@@ -1,10 +1,11 @@
 // Bytes as a run of blocks, and the tests on a block number and a buffer that every make of card shares.
 ghost use mathlib.Core.Path.{_≡_};
-ghost use Prim.Native.Nat.{_+_, _*_, _≤_};
+ghost use Prim.Native.Nat.{_+_, _*_, _<_, _≤_};
 ghost use lib.ListN.{length};
 ghost use Rattle.cards.specs.Answers.{answer};
-ghost use Rattle.cards.specs.Blocks.{block-at, put-block};
+ghost use Rattle.cards.specs.Blocks.{shown-blocks, block-at, put-block};
 use crate::card::BLOCK_SIZE;
+use crate::card::MOST_BLOCKS;
 use crate::fault::Fault;
 use crate::fault::Layer;
 
@@ -22,6 +23,14 @@ pub(crate) fn admit(blocks: usize, b: usize, length: usize) -> Result<(), Fault>
         return Err(Fault::CardBlock { block: b });
     }
     Ok(())
+}
+
+// How many blocks a card shows of memory of this length, at so many bytes for each block.
+pub(crate) fn count(length: usize, each: usize) -> usize
+    requires { ⌜ 0 < each ⌝ }
+    ensures { λ r. ⌜ r ≡ shown-blocks length each ⌝ }
+{
+    (length / each).min(MOST_BLOCKS)
 }
 
 // Reads the block at place p.

@@ -2,6 +2,7 @@
 mod blocks;
 pub mod card;
 pub mod fault;
+pub mod lent;
 mod place;
 pub mod plain;
 pub mod shelf;

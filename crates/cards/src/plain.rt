@@ -11,11 +11,11 @@ ghost use Rattle.cards.specs.Meanings.{Flushed, Lost};
 ghost use Rattle.cards.specs.PlainCards.{plain};
 ghost use Rattle.cards.specs.SoundCards.{plain-sound};
 use crate::blocks::admit;
+use crate::blocks::count;
 use crate::blocks::get_block;
 use crate::blocks::put_block;
 use crate::card::BLOCK_SIZE;
 use crate::card::Card;
-use crate::card::MOST_BLOCKS;
 use crate::fault::Fault;
 
 #[derive(Drop)]
@@ -41,11 +41,11 @@ pub impl Card for PlainCard<'_> as PlainCardCard {
     ghost lenders = { λ c. lent (c .bytes) };
 
     fn blocks(&self) -> usize {
-        (self.bytes.len() / BLOCK_SIZE).min(MOST_BLOCKS)
+        count(self.bytes.len(), BLOCK_SIZE)
     }
 
     fn read(&self, b: usize, buffer: &mut [u8]) -> Result<(), Fault> {
-        admit(self.blocks(), b, buffer.len())?;
+        admit(count(self.bytes.len(), BLOCK_SIZE), b, buffer.len())?;
         get_block(self.bytes, b, buffer);
         Ok(())
     }
@@ -56,7 +56,7 @@ pub impl Card for PlainCard<'_> as PlainCardCard {
         ensures lender { λ _. ⌜ lent (now (self .exit) .bytes) ≡ lent (now (self .entry) .bytes) ⌝ }
         ensures exact { λ r. ⌜ now (now (self .exit) .bytes) ≡ cond (isOk r) (put-block (now (now (self .entry) .bytes)) b (now (bytes .entry))) (now (now (self .entry) .bytes)) ⌝ }
     {
-        admit(self.blocks(), b, bytes.len())?;
+        admit(count(self.bytes.len(), BLOCK_SIZE), b, bytes.len())?;
         put_block(self.bytes, b, bytes);
         Ok(())
     }

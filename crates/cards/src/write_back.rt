@@ -14,12 +14,15 @@ ghost use Rattle.cards.specs.SoundCards.{write-back-sound};
 ghost use Rattle.cards.specs.WriteBackCards.{write-back, pairs, fresh, spared, left-of, Settled};
 use crate::blocks::admit;
 use crate::blocks::copy_block;
+use crate::blocks::count;
 use crate::blocks::get_block;
 use crate::blocks::put_block;
 use crate::card::BLOCK_SIZE;
 use crate::card::Card;
-use crate::card::MOST_BLOCKS;
 use crate::fault::Fault;
+
+// The bytes of a block's two copies.
+const PAIR_SIZE: usize = 2 * BLOCK_SIZE;
 
 // The pattern under which every fresh copy stays.
 const ALL_FRESH: u64 = u64::MAX;
@@ -27,13 +30,6 @@ const ALL_FRESH: u64 = u64::MAX;
 #[derive(Drop)]
 pub struct WriteBackCard<'a> {
     bytes: &'a mut [u8],
-}
-
-// The number of blocks in the lent bytes, of two copies each.
-fn count_pairs(bytes: &[u8]) -> usize
-    ensures { λ r. ⌜ r ≡ pairs (now (bytes .entry)) ⌝ }
-{
-    (bytes.len() / (2 * BLOCK_SIZE)).min(MOST_BLOCKS)
 }
 
 // Whether the pattern leaves block b its fresh copy.
@@ -48,7 +44,7 @@ fn spares(pattern: u64, b: usize) -> bool
 fn settle(bytes: &mut [u8], pattern: u64)
     ensures { λ _. ⌜ Settled (left-of pattern (now (bytes .entry))) (now (bytes .entry)) (now (bytes .exit)) ⌝ }
 {
-    let n = count_pairs(bytes);
+    let n = count(bytes.len(), PAIR_SIZE);
     for b in 0..n {
         if spares(pattern, b) {
             copy_block(bytes, n + b, b);
@@ -76,11 +72,11 @@ pub impl Card for WriteBackCard<'_> as WriteBackCardCard {
     ghost lenders = { λ c. lent (c .bytes) };
 
     fn blocks(&self) -> usize {
-        count_pairs(self.bytes)
+        count(self.bytes.len(), PAIR_SIZE)
     }
 
     fn read(&self, b: usize, buffer: &mut [u8]) -> Result<(), Fault> {
-        let n = self.blocks();
+        let n = count(self.bytes.len(), PAIR_SIZE);
         admit(n, b, buffer.len())?;
         get_block(self.bytes, n + b, buffer);
         Ok(())
@@ -92,7 +88,7 @@ pub impl Card for WriteBackCard<'_> as WriteBackCardCard {
         ensures lender { λ _. ⌜ lent (now (self .exit) .bytes) ≡ lent (now (self .entry) .bytes) ⌝ }
         ensures exact { λ r. ⌜ now (now (self .exit) .bytes) ≡ cond (isOk r) (put-block (now (now (self .entry) .bytes)) (pairs (now (now (self .entry) .bytes)) + b) (now (bytes .entry))) (now (now (self .entry) .bytes)) ⌝ }
     {
-        let n = self.blocks();
+        let n = count(self.bytes.len(), PAIR_SIZE);
         admit(n, b, bytes.len())?;
         put_block(self.bytes, n + b, bytes);
         Ok(())

@@ -16,8 +16,8 @@ loop-b-again c =
     let b = c .loop-b .b in
     let lt : b < pairs xs = omega arith in
     elim (c .if-spares .came) [
-      | then-spares w ↦ midway-fresh (c .args .pattern) xs ys _ b _ (c .count-pairs-n .ensures) lt (c .loop-b .inv) (sym (c .spares .ensures) ∙ w .if-spares .taken) (w .bytes-is ∙ w .copy-block .ensures)
-      | else-spares w ↦ midway-kept (c .args .pattern) xs ys _ b _ (c .count-pairs-n .ensures) lt (c .loop-b .inv) (sym (c .spares .ensures) ∙ w .if-spares .left) (w .bytes-is ∙ w .copy-block-else-spares .ensures)
+      | then-spares w ↦ midway-fresh (c .args .pattern) xs ys _ b _ (c .count-n .ensures) lt (c .loop-b .inv) (sym (c .spares .ensures) ∙ w .if-spares .taken) (w .bytes-is ∙ w .copy-block .ensures)
+      | else-spares w ↦ midway-kept (c .args .pattern) xs ys _ b _ (c .count-n .ensures) lt (c .loop-b .inv) (sym (c .spares .ensures) ∙ w .if-spares .left) (w .bytes-is ∙ w .copy-block-else-spares .ensures)
     ]
 
 pub returns : need.returns

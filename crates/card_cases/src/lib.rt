@@ -1,0 +1,2 @@
+// The cards seen from outside: what their lenders can tell of the lent bytes, and each make at its edges.
+pub mod lending;
