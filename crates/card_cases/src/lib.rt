@@ -1,2 +1,4 @@
 // The cards seen from outside: what their lenders can tell of the lent bytes, and each make at its edges.
+#[cfg(test)]
+mod edges;
 pub mod lending;

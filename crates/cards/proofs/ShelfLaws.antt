@@ -16,7 +16,8 @@ use Rattle.std.specs.declared.result.Result.the-variants.{Ok, Err}
 use Rattle.cards.specs.declared.fault.Fault.{Fault}
 use Rattle.cards.specs.Answers.{answer, Written}
 use Rattle.cards.specs.Meanings.{Content, Meaning, In, Wrote, Flushed, Lost}
-use Rattle.cards.specs.OnShelf.{held-of}
+use Rattle.cards.specs.OnShelf.{held, held-of}
+use Rattle.cards.specs.SoundCards.{length-content}
 use Rattle.cards.specs.declared.place.Place.{Place}
 use Rattle.cards.proofs.Admitted.{refused-past}
 use Rattle.cards.specs.Shelves.{Held, laid, shelved, place-from, place-of, stored-at, stored, spilled-at, spilled, WroteAll, WroteAllFlushed}
@@ -178,30 +179,28 @@ eased-under m n h hs f = record {
   fewer = λ b y lt. doubts-mono hs b y (n .doubt b) _ (f .fewer b y lt);
 }
 
-one-eased : (m n : Meaning) (p : Place) (r : Result (Unit {0}) Fault) → r ≡ answer (m .size) (p .block) (length (p .bytes)) → Written r m (p .block) (p .bytes) n → Eased (shelved m ((p .block, p .bytes) ∷ [])) n
-one-eased m n p (Ok u) e w = record {
+one-eased : (m n : Meaning) (h : Held) (r : Result (Unit {0}) Fault) → length (h .1) ≡ 512 → r ≡ answer (m .size) (h .0) (length (h .1)) → Written r m (h .0) (h .1) n → Eased (shelved m (h ∷ [])) n
+one-eased m n h (Ok u) whole e w = record {
   size = w .size;
-  present = λ b lt. elim (cases-eq (p .block) b) [
-    | inl is ↦ ap (n .present) (sym is) ∙ w .here ∙ sym (on (λ c y. c) [] (p .block, p .bytes) b (m .present b) (eq-eqb (p .block) b is))
-    | inr ne ↦ w .there b lt (λ is. ne (sym is)) ∙ sym (off (λ c y. c) [] (p .block, p .bytes) b (m .present b) (ne-eqb (p .block) b ne))
+  present = λ b lt. elim (cases-eq (h .0) b) [
+    | inl is ↦ ap (n .present) (sym is) ∙ w .here ∙ sym (on (λ c y. c) [] h b (m .present b) (eq-eqb (h .0) b is))
+    | inr ne ↦ w .there b lt (λ is. ne (sym is)) ∙ sym (off (λ c y. c) [] h b (m .present b) (ne-eqb (h .0) b ne))
   ];
-  fewer = λ b y lt h. elim (cases-eq (p .block) b) [
+  fewer = λ b y lt i. elim (cases-eq (h .0) b) [
     | inl is ↦
-        subst (In y) (sym (on _∷_ [] (p .block, p .bytes) b (m .doubt b) (eq-eqb (p .block) b is)))
-        (subst (λ k. In y (p .bytes ∷ m .doubt k)) is (w .doubt-here y (subst (λ k. In y (n .doubt k)) (sym is) h)))
-    | inr ne ↦
-        subst (In y) (sym (off _∷_ [] (p .block, p .bytes) b (m .doubt b) (ne-eqb (p .block) b ne)))
-        (w .doubt-there b y lt (λ is. ne (sym is)) h)
+        subst (In y) (sym (on _∷_ [] h b (m .doubt b) (eq-eqb (h .0) b is)))
+        (subst (λ k. In y (h .1 ∷ m .doubt k)) is (w .doubt-here y (subst (λ k. In y (n .doubt k)) (sym is) i)))
+    | inr ne ↦ subst (In y) (sym (off _∷_ [] h b (m .doubt b) (ne-eqb (h .0) b ne))) (w .doubt-there b y lt (λ is. ne (sym is)) i)
   ];
 }
-one-eased m n p (Err f) e is =
-    let past : m .size ≤ p .block = refused-past (m .size) (p .block) (length (p .bytes)) f (p .whole) e in
-    let none : (b : ℕ) → b < m .size → eqb (p .block) b ≡ false = λ b lt. ne-eqb (p .block) b (λ is. omega arith) in
-    eased-trans (shelved m ((p .block, p .bytes) ∷ [])) m n
+one-eased m n h (Err f) whole e is =
+    let past : m .size ≤ h .0 = refused-past (m .size) (h .0) (length (h .1)) f whole e in
+    let none : (b : ℕ) → b < m .size → eqb (h .0) b ≡ false = λ b lt. ne-eqb (h .0) b (λ is. omega arith) in
+    eased-trans (shelved m (h ∷ [])) m n
     (record {
       size = refl;
-      present = λ b lt. sym (off (λ c y. c) [] (p .block, p .bytes) b (m .present b) (none b lt));
-      fewer = λ b y lt h. subst (In y) (sym (off _∷_ [] (p .block, p .bytes) b (m .doubt b) (none b lt))) h;
+      present = λ b lt. sym (off (λ c y. c) [] h b (m .present b) (none b lt));
+      fewer = λ b y lt i. subst (In y) (sym (off _∷_ [] h b (m .doubt b) (none b lt))) i;
     })
     (eased-same m n is)
 
@@ -210,7 +209,7 @@ eased-all [] m n is = eased-same m n is
 eased-all (p ∷ ps) m n w =
     let k = w .0 in
     eased-trans (shelved m (held-of (p ∷ ps))) (shelved k (held-of ps)) n
-    (eased-under m k (p .block, p .bytes) (held-of ps) (one-eased m k p _ refl (w .1)))
+    (eased-under m k (held p) (held-of ps) (one-eased m k (held p) _ (length-content (p .bytes)) refl (w .1)))
     (eased-all ps k n (w .2))
 
 -- ---- a write, a barrier and a loss

@@ -6,14 +6,14 @@ use mathlib.Core.List.{List, [], _∷_, _++_}
 use Prim.Native.Nat.{ℕ, suc, _+_, _<_, _≤_, min}
 use native.Mathlib.Omega.{arith}
 use lib.Dec.{eqb, ltb}
-use lib.ListN.{length, getD, set, take}
+use lib.ListN.{length, getD, set, take, replicate}
 use lib.Seq.{take-set-lt}
-use Rattle.std.proofs.shelf.Lists.{take-all, take-more, take-more-set, map-push, map-set, getD-map, length-map, length-take, length-take-le}
+use Rattle.std.proofs.shelf.Lists.{take-all, take-more, take-more-set, take-at, map-push, map-set, getD-map, length-map, length-take, length-take-le}
 use Rattle.std.proofs.shelf.Tests.{cases-lt, eq-eqb, ne-eqb, lt-ltb, le-ltb}
 use Rattle.std.specs.Slices.{found}
 use Rattle.std.specs.declared.option.Option.{Option}
 use Rattle.std.specs.declared.option.Option.the-variants.{Some, None}
-use Rattle.cards.specs.OnShelf.{held-of}
+use Rattle.cards.specs.OnShelf.{content, held, held-of}
 use Rattle.cards.specs.Meanings.{Content}
 use Rattle.cards.specs.Shelves.{Held, place-from, place-of, stored-at, stored}
 use Rattle.cards.specs.declared.place.Place.{Place}
@@ -25,12 +25,16 @@ in-use ps n used e = elim (cases-lt used (length ps)) [
   | inr le ↦ take-all n ps (omega arith) ∙ sym (take-all used ps le)
 ]
 
+pub content-is : (xs : List ℕ) → length xs ≡ 512 → content xs ≡ xs
+content-is xs whole = take-at xs (replicate 512 0) 512 whole
+
+-- a place that is read past the last one
+abbrev pub no-place : Place
+no-place = record { block = 0; bytes = [] }
+
 -- one place more
-pub held-more : (ps : List Place) (i : ℕ) (p : Place) → i < length ps → p ≡ getD ps i p → held-of (take (i + 1) ps) ≡ held-of (take i ps) ++ (p .block, p .bytes) ∷ []
-held-more ps i p lt is =
-    ap held-of (take-more ps i p lt)
-    ∙ map-push (λ q. (q .block, q .bytes)) (take i ps) (getD ps i p)
-    ∙ ap (λ q. held-of (take i ps) ++ (q .block, q .bytes) ∷ []) (sym is)
+pub held-more : (ps : List Place) (i : ℕ) → i < length ps → held-of (take (i + 1) ps) ≡ held-of (take i ps) ++ held (getD ps i no-place) ∷ []
+held-more ps i lt = ap held-of (take-more ps i no-place lt) ∙ map-push held (take i ps) (getD ps i no-place)
 
 -- ---- the search for a block's place
 place-push-at : (s t : Bool) (n : ℕ) (o : Option ℕ) → place-from s (cond t (Some n) o) ≡ cond t (Some (suc n)) (place-from s o)
@@ -59,19 +63,19 @@ found-within n i (Some k) le f = omega arith
 pub found-none : (ps : List Place) (b : ℕ) → Found ps b 0 None
 found-none ps b = record { value = refl; within = tt }
 
-module _ (ps : List Place) (b i : ℕ) (p : Place) (lt : i < length ps) (is : p ≡ getD ps i p) where
-  found-push : (t : Bool) → eqb (p .block) b ≡ t → place-of (held-of (take (i + 1) ps)) b ≡ cond t (Some i) (place-of (held-of (take i ps)) b)
+module _ (ps : List Place) (b i : ℕ) (lt : i < length ps) where
+  found-push : (t : Bool) → eqb (getD ps i no-place .block) b ≡ t → place-of (held-of (take (i + 1) ps)) b ≡ cond t (Some i) (place-of (held-of (take i ps)) b)
   found-push t e =
-      ap (λ hs. place-of hs b) (held-more ps i p lt is)
-      ∙ place-push (held-of (take i ps)) (p .block, p .bytes) b
+      ap (λ hs. place-of hs b) (held-more ps i lt)
+      ∙ place-push (held-of (take i ps)) (held (getD ps i no-place)) b
       ∙ ap (λ t. cond t (Some (length (held-of (take i ps)))) (place-of (held-of (take i ps)) b)) e
       ∙ ap (λ n. cond t (Some n) (place-of (held-of (take i ps)) b)) (length-map (take i ps) _ ∙ length-take-le i ps (omega arith))
 
-  pub found-here : p .block ≡ b → Found ps b (i + 1) (Some i)
-  found-here e = record { value = sym (found-push true (eq-eqb (p .block) b e)); within = omega arith }
+  pub found-here : getD ps i no-place .block ≡ b → Found ps b (i + 1) (Some i)
+  found-here e = record { value = sym (found-push true (eq-eqb _ b e)); within = omega arith }
 
-  pub found-on : (r : Option ℕ) → (p .block ≡ b → ⊥) → Found ps b i r → Found ps b (i + 1) r
-  found-on r ne f = record { value = f .value ∙ sym (found-push false (ne-eqb (p .block) b ne)); within = found-within (i + 1) i r (omega arith) (f .within) }
+  pub found-on : (r : Option ℕ) → (getD ps i no-place .block ≡ b → ⊥) → Found ps b i r → Found ps b (i + 1) r
+  found-on r ne f = record { value = f .value ∙ sym (found-push false (ne-eqb _ b ne)); within = found-within (i + 1) i r (omega arith) (f .within) }
 
 pub found-all : (ps : List Place) (b i : ℕ) (r : Option ℕ) → length ps ≤ i → i ≤ length ps → Found ps b i r → (r ≡ place-of (held-of ps) b) × found r (λ k. k < length ps)
 found-all ps b i r le ge f = (f .value ∙ ap (λ qs. place-of (held-of qs) b) (take-all i ps le), found-within (length ps) i r ge (f .within))
@@ -84,14 +88,14 @@ pub roomy : (ps : List Place) (used : ℕ) → used < 4 → ltb (length (held-of
 roomy ps used lt = lt-ltb _ 4 (simp (length-map, length-take) (omega arith))
 
 -- ---- a write of c to block b, at its place or at the next
-module _ (ps : List Place) (used b : ℕ) (c : Content) (q : Place) (block : q .block ≡ b) (bytes : q .bytes ≡ c) where
-  stored-place : _≡_ {A = Held} (q .block, q .bytes) (b, c)
-  stored-place = ap (λ k. (k, q .bytes)) block ∙ ap (λ x. (b, x)) bytes
+module _ (ps : List Place) (used b : ℕ) (c : Content) (q : Place) (whole : length c ≡ 512) (block : q .block ≡ b) (bytes : q .bytes ≡ c) where
+  stored-place : held q ≡ (b, c)
+  stored-place = ap (λ k. (k, content (q .bytes))) block ∙ ap (λ x. (b, x)) (ap content bytes ∙ content-is c whole)
 
   pub held-replaced : (i : ℕ) → i < used → place-of (held-of (take used ps)) b ≡ Some i → held-of (take used (set ps i q)) ≡ stored (held-of (take used ps)) b c
   held-replaced i lt at =
       ap held-of (take-set-lt used ps i q lt)
-      ∙ map-set (λ p. (p .block, p .bytes)) (take used ps) i q
+      ∙ map-set held (take used ps) i q
       ∙ ap (set (held-of (take used ps)) i) stored-place
       ∙ ap (λ o. stored-at o (held-of (take used ps)) b c) (sym at)
 
@@ -100,8 +104,8 @@ module _ (ps : List Place) (used b : ℕ) (c : Content) (q : Place) (block : q .
       → held-of (take (next + 1) (set rs next q)) ≡ stored (held-of (take used ps)) b c
   held-added rs next lt at room =
       ap held-of (take-more-set rs next q lt)
-      ∙ map-push (λ p. (p .block, p .bytes)) (take next rs) q
-      ∙ ap (λ hs. hs ++ (q .block, q .bytes) ∷ []) room
+      ∙ map-push held (take next rs) q
+      ∙ ap (λ hs. hs ++ held q ∷ []) room
       ∙ ap (λ h. cond (ltb (length (held-of (take used ps))) 4) (held-of (take used ps)) [] ++ h ∷ []) stored-place
       ∙ ap (λ o. stored-at o (held-of (take used ps)) b c) (sym at)
 
@@ -112,5 +116,5 @@ found-below ps qs used i is lt =
     (omega arith, omega arith)
 
 -- what the found place holds
-pub held-at : (qs : List Place) (i : ℕ) (p : Place) → i < length qs → getD qs i p .bytes ≡ getD (held-of qs) i (0, []) .1
-held-at qs i p lt = ap (λ (h : Held). h .1) (sym (getD-map (λ p. (p .block, p .bytes)) qs i p (0, []) lt))
+pub held-at : (qs : List Place) (i : ℕ) → i < length qs → length (getD qs i no-place .bytes) ≡ 512 → getD qs i no-place .bytes ≡ getD (held-of qs) i (0, []) .1
+held-at qs i lt whole = sym (content-is (getD qs i no-place .bytes) whole) ∙ ap (λ (h : Held). h .1) (sym (getD-map held qs i no-place (0, []) lt))

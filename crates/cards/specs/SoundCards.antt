@@ -7,10 +7,10 @@ use mathlib.Core.List.{List, [], _∷_}
 use Prim.Native.Nat.{ℕ, _+_, _*_, _≤_}
 use native.Mathlib.Omega.{arith}
 use lib.Dec.{eqb}
-use lib.ListN.{length, take, length-take, length-drop}
+use lib.ListN.{length, take, length-take, length-drop, length-append, length-replicate}
 use Rattle.cards.specs.Blocks.{block-at}
 use Rattle.cards.specs.Meanings.{Content, Meaning, In, Sound}
-use Rattle.cards.specs.OnShelf.{held-of, shelf-of}
+use Rattle.cards.specs.OnShelf.{content, held-of, shelf-of}
 use Rattle.cards.specs.PlainCards.{plain}
 use Rattle.cards.specs.Shelves.{laid}
 use Rattle.cards.specs.WriteBackCards.{pairs, write-back}
@@ -42,7 +42,10 @@ laid-held : (ps : List Place) (b : ℕ) (x : Content) (d : List Content) → In 
 laid-held [] b x d h = h
 laid-held (p ∷ ps) b x d h =
     laid-held ps b _ _
-    (elim (eqb (p .block) b) as (λ t. In (cond t (p .bytes) x) (cond t (p .bytes ∷ d) d)) [ true ↦ inl refl | false ↦ h ])
+    (elim (eqb (p .block) b) as (λ t. In (cond t (content (p .bytes)) x) (cond t (content (p .bytes) ∷ d) d)) [ true ↦ inl refl | false ↦ h ])
+
+pub length-content : (xs : List ℕ) → length (content xs) ≡ 512
+length-content xs = simp (length-take, length-append, length-replicate) (omega arith)
 
 AllWhole : List Content → Type 0
 AllWhole d = (x : Content) → In x d → length x ≡ 512
@@ -52,7 +55,7 @@ unfolding AllWhole
 laid-whole [] b d h = h
 laid-whole (p ∷ ps) b d h =
     laid-whole ps b _
-    (elim (eqb (p .block) b) as (λ t. AllWhole (cond t (p .bytes ∷ d) d)) [ true ↦ λ x. ⊎-elim (λ is. ap length is ∙ p .whole) (h x) | false ↦ h ])
+    (elim (eqb (p .block) b) as (λ t. AllWhole (cond t (content (p .bytes) ∷ d) d)) [ true ↦ λ x. ⊎-elim (λ is. ap length is ∙ length-content (p .bytes)) (h x) | false ↦ h ])
 
 pub shelf-sound : {C : Type 0} (meaning : C → Meaning) → ((c : C) → Sound (meaning c)) → (s : Shelf C) → Sound (shelf-of meaning s)
 unfolding AllWhole

@@ -8,7 +8,6 @@ use crate::card::BLOCK_SIZE;
 pub struct Place {
     pub block: usize,
     pub bytes: [u8; BLOCK_SIZE],
-    ghost whole: { length bytes ≡ 512 },
 }
 
 impl Place {

@@ -13,11 +13,10 @@ loop-i-again c =
     let ps = c .args .places .now in
     let b = c .args .b in
     let i = c .loop-i .i in
-    let p = c .index-places-i .result in
     let lt = c .loop-i-test .taken in
     elim (c .if-place-b .came) [
-      | then-place-b w ↦ subst (Found ps b (i + 1)) (sym (w .at-is)) (found-here ps b i p lt (c .index-places-i .is) (w .if-place-b .taken))
-      | else-place-b w ↦ subst (Found ps b (i + 1)) (sym (w .at-is)) (found-on ps b i p lt (c .index-places-i .is) (c .loop-i .at) (w .if-place-b .left) (c .loop-i .inv))
+      | then-place-b w ↦ subst (Found ps b (i + 1)) (sym (w .at-is)) (found-here ps b i lt (w .if-place-b .taken))
+      | else-place-b w ↦ subst (Found ps b (i + 1)) (sym (w .at-is)) (found-on ps b i lt (c .loop-i .at) (w .if-place-b .left) (c .loop-i .inv))
     ]
 
 pub returns : need.returns

@@ -13,14 +13,13 @@ returns-in-Some g c =
     let b = c .args .b in
     let qs = c .in-use-places .result .now in
     let i = c .in-Some .i in
-    let p = c .index-places-i .result in
     let is = ap held-of (c .in-use-places .ensures) in
     let x = g .C·Card .meaning (c .args .self .now .card) .present b in
     record {
       value = search needs;
       buffer =
           c .copy-from-slice .ensures .after
-          ∙ held-at qs i p (c .in-Some .ensures tt .within)
+          ∙ held-at qs i (c .in-Some .ensures tt .within) (search needs)
           ∙ sym (over-at (held-of qs) b i x (sym (c .in-Some .ensures tt .value)))
           ∙ ap (λ hs. laid (λ c y. c) hs b x) is;
     }
