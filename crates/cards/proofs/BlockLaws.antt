@@ -5,12 +5,16 @@ use mathlib.Core.List.{List, _++_, append-assoc}
 use Prim.Native.Nat.{ℕ, _≤_, _<_, _+_, _*_}
 use native.Mathlib.Omega.{arith}
 use borrow.Rule.Slice.PartMut.{putMid}
-use lib.ListN.{length, take, drop, length-take, length-drop, length-append}
+use lib.ListN.{length, take, drop, length-take, length-drop, length-append, replicate}
 use lib.Seq.{paste}
 use Rattle.std.proofs.shelf.Parts.{take-putMid-below, drop-putMid}
 use Rattle.std.proofs.shelf.Lists.{drop-take, drop-drop, drop-at, take-at, length-take-le}
 use Rattle.std.proofs.shelf.Tests.{cases-order}
-use Rattle.cards.specs.Blocks.{block-at, put-block}
+use Rattle.cards.specs.Blocks.{content, block-at, put-block}
+
+-- 512 bytes are a content as they are
+pub content-is : (xs : List ℕ) → length xs ≡ 512 → content xs ≡ xs
+content-is xs whole = take-at xs (replicate 512 0) 512 whole
 
 -- what a write to the bytes of a block leaves
 pub put-block-is : (xs c : List ℕ) (p k : ℕ) → k ≡ 512 → putMid (p * 512) k xs c ≡ put-block xs p c

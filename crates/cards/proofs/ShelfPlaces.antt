@@ -6,15 +6,17 @@ use mathlib.Core.List.{List, [], _∷_, _++_}
 use Prim.Native.Nat.{ℕ, suc, _+_, _<_, _≤_, min}
 use native.Mathlib.Omega.{arith}
 use lib.Dec.{eqb, ltb}
-use lib.ListN.{length, getD, set, take, replicate}
+use lib.ListN.{length, getD, set, take}
 use lib.Seq.{take-set-lt}
-use Rattle.std.proofs.shelf.Lists.{take-all, take-more, take-more-set, take-at, map-push, map-set, getD-map, length-map, length-take, length-take-le}
+use Rattle.std.proofs.shelf.Lists.{take-all, take-more, take-more-set, map-push, map-set, getD-map, length-map, length-take, length-take-le}
 use Rattle.std.proofs.shelf.Tests.{cases-lt, eq-eqb, ne-eqb, lt-ltb, le-ltb}
 use Rattle.std.specs.Slices.{found}
 use Rattle.std.specs.declared.option.Option.{Option}
 use Rattle.std.specs.declared.option.Option.the-variants.{Some, None}
-use Rattle.cards.specs.OnShelf.{content, held, held-of}
+use Rattle.cards.specs.OnShelf.{held, held-of}
+use Rattle.cards.specs.Blocks.{content}
 use Rattle.cards.specs.Meanings.{Content}
+use Rattle.cards.proofs.BlockLaws.{content-is}
 use Rattle.cards.specs.Shelves.{Held, place-from, place-of, stored-at, stored}
 use Rattle.cards.specs.declared.place.Place.{Place}
 
@@ -24,9 +26,6 @@ in-use ps n used e = elim (cases-lt used (length ps)) [
   | inl lt ↦ ap (λ k. take k ps) (omega arith)
   | inr le ↦ take-all n ps (omega arith) ∙ sym (take-all used ps le)
 ]
-
-pub content-is : (xs : List ℕ) → length xs ≡ 512 → content xs ≡ xs
-content-is xs whole = take-at xs (replicate 512 0) 512 whole
 
 -- a place that is read past the last one
 abbrev pub no-place : Place

@@ -1,17 +1,13 @@
 -- What a shelf holds, and what it means before its card.
-use mathlib.Core.List.{List, _++_, map}
-use Prim.Native.Nat.{ℕ}
-use lib.ListN.{take, replicate}
-use Rattle.cards.specs.Meanings.{Content, Meaning}
+use mathlib.Core.List.{List, map}
+use lib.ListN.{take}
+use Rattle.cards.specs.Blocks.{content}
+use Rattle.cards.specs.Meanings.{Meaning}
 use Rattle.cards.specs.Shelves.{Held, shelved}
 use Rattle.cards.specs.declared.place.Place.{Place}
 use Rattle.cards.specs.declared.shelf.Shelf.{Shelf}
 
--- Bytes as a content. The bytes of a place are 512, but that is a fact of the code and not of its every value in the
--- logic, so others are cut, or filled up with zeros.
-abbrev pub content : List ℕ → Content
-content xs = take 512 (xs ++ replicate 512 0)
-
+-- what a place holds
 abbrev pub held : Place → Held
 held p = (p .block, content (p .bytes))
 

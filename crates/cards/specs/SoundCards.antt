@@ -8,9 +8,9 @@ use Prim.Native.Nat.{ℕ, _+_, _*_, _≤_}
 use native.Mathlib.Omega.{arith}
 use lib.Dec.{eqb}
 use lib.ListN.{length, take, length-take, length-drop, length-append, length-replicate}
-use Rattle.cards.specs.Blocks.{block-at}
+use Rattle.cards.specs.Blocks.{content, block-at}
 use Rattle.cards.specs.Meanings.{Content, Meaning, In, Sound}
-use Rattle.cards.specs.OnShelf.{content, held-of, shelf-of}
+use Rattle.cards.specs.OnShelf.{held-of, shelf-of}
 use Rattle.cards.specs.PlainCards.{plain}
 use Rattle.cards.specs.Shelves.{laid}
 use Rattle.cards.specs.WriteBackCards.{pairs, write-back}

@@ -1,6 +1,6 @@
 // One place of a shelf.
 ghost use mathlib.Core.Path.{_≡_};
-ghost use lib.ListN.{length};
+ghost use lib.ListN.{length, replicate};
 use crate::card::BLOCK_SIZE;
 
 // A block number and the block's bytes.
@@ -12,7 +12,10 @@ pub struct Place {
 
 impl Place {
     // A place before its first use.
-    pub fn new() -> Place {
+    pub fn new() -> Place
+        ensures block { λ r. ⌜ r .block ≡ 0 ⌝ }
+        ensures bytes { λ r. ⌜ r .bytes ≡ replicate 512 0 ⌝ }
+    {
         Place {
             block: 0,
             bytes: [0; BLOCK_SIZE],

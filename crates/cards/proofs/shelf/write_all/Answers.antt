@@ -5,8 +5,9 @@ use Rattle.std.proofs.shelf.Lists.{take-all}
 use Rattle.cards.specs.Answers.{answer, Written}
 use Rattle.cards.specs.OnShelf.{held, held-of}
 use Rattle.cards.specs.Shelves.{WroteAll}
+use Rattle.cards.proofs.BlockLaws.{content-is}
 use Rattle.cards.proofs.ShelfLaws.{wrote-push}
-use Rattle.cards.proofs.ShelfPlaces.{content-is, no-place, held-more}
+use Rattle.cards.proofs.ShelfPlaces.{no-place, held-more}
 use Rattle.cards.proofs.shelf.write_all.Needs as need
 
 pub loop-place-holds : need.loop-place-holds
