@@ -1,1 +1,2 @@
+pub mod Outlives
 pub mod Saved

@@ -2,6 +2,7 @@
 // make of card.
 ghost use mathlib.Core.Bool.{cond};
 ghost use mathlib.Core.Path.{_≡_};
+ghost use Prim.Native.Nat.{ℕ};
 ghost use lib.ListN.{length};
 ghost use Rattle.std.specs.Results.{isOk};
 ghost use Rattle.cards.specs.Answers.{answer, Written};
@@ -24,6 +25,10 @@ pub trait Card {
 
     // The memory that was lent to the card.
     ghost lenders: { Self → Names };
+
+    // What a loss of power under a pattern makes of a card of this make. Whatever stands before a card is held by this to
+    // pass the pattern on.
+    ghost loses: { Self → ℕ → Self → Type 0 };
 
     // The number of blocks.
     fn blocks(&self) -> usize
@@ -48,5 +53,6 @@ pub trait Card {
     // Loses power. The pattern stands for the chance by which each block keeps one of its contents in doubt.
     fn lose_power(&mut self, pattern: u64)
         ensures card { λ _. ⌜ Lost (meaning (now (self .entry))) (meaning (now (self .exit))) ⌝ }
+        ensures exact { λ _. ⌜ loses (now (self .entry)) pattern (now (self .exit)) ⌝ }
         ensures lender { λ _. ⌜ lenders (now (self .exit)) ≡ lenders (now (self .entry)) ⌝ };
 }

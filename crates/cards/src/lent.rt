@@ -12,6 +12,8 @@ pub impl<C: Card> Card for &mut C as LentCard {
 
     ghost lenders = { λ c. name c ∷ C·Card .lenders (now c) };
 
+    ghost loses = { λ c pattern d. C·Card .loses (now c) pattern (now d) };
+
     fn blocks(&self) -> usize {
         (**self).blocks()
     }

@@ -40,6 +40,8 @@ pub impl Card for PlainCard<'_> as PlainCardCard {
 
     ghost lenders = { λ c. lent (c .bytes) };
 
+    ghost loses = { λ c _ d. now (d .bytes) ≡ now (c .bytes) };
+
     fn blocks(&self) -> usize {
         count(self.bytes.len(), BLOCK_SIZE)
     }

@@ -106,6 +106,8 @@ pub impl<C: Card> Card for Shelf<C> as ShelfCard {
 
     ghost lenders = { λ s. C·Card .lenders (s .card) };
 
+    ghost loses = { λ s pattern t. (on-shelf t ≡ []) × C·Card .loses (s .card) pattern (t .card) };
+
     fn blocks(&self) -> usize {
         self.card.blocks()
     }
@@ -155,7 +157,7 @@ pub impl<C: Card> Card for Shelf<C> as ShelfCard {
     fn lose_power(&mut self, pattern: u64)
         ensures card { λ _. ⌜ Lost (shelf-of (C·Card .meaning) (now (self .entry))) (shelf-of (C·Card .meaning) (now (self .exit))) ⌝ }
         ensures lender { λ _. ⌜ C·Card .lenders (now (self .exit) .card) ≡ C·Card .lenders (now (self .entry) .card) ⌝ }
-        ensures places { λ _. ⌜ on-shelf (now (self .exit)) ≡ [] ⌝ }
+        ensures exact { λ _. ⌜ (on-shelf (now (self .exit)) ≡ []) × C·Card .loses (now (self .entry) .card) pattern (now (self .exit) .card) ⌝ }
         ensures below { λ _. ⌜ Lost (C·Card .meaning (now (self .entry) .card)) (C·Card .meaning (now (self .exit) .card)) ⌝ }
     {
         self.used = 0;

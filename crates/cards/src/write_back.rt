@@ -71,6 +71,8 @@ pub impl Card for WriteBackCard<'_> as WriteBackCardCard {
 
     ghost lenders = { λ c. lent (c .bytes) };
 
+    ghost loses = { λ c pattern d. Settled (left-of pattern (now (c .bytes))) (now (c .bytes)) (now (d .bytes)) };
+
     fn blocks(&self) -> usize {
         count(self.bytes.len(), PAIR_SIZE)
     }
