@@ -1,5 +1,5 @@
 -- A write through an empty shelf, and a barrier: what the card below then means.
-use mathlib.Core.Path.{_≡_, refl, sym, ap, subst, _∙_}
+use mathlib.Core.Path.{_≡_, ap, subst, _∙_}
 use mathlib.Core.Bool.{true}
 use mathlib.Core.List.{List, []}
 use Prim.Native.Nat.{ℕ, _<_}
@@ -12,7 +12,7 @@ use Rattle.std.specs.declared.result.Result.{Result}
 use Rattle.std.specs.declared.result.Result.the-variants.{Ok, Err}
 use Rattle.cards.specs.declared.fault.Fault.{Fault}
 use Rattle.cards.specs.Answers.{answer, Written}
-use Rattle.cards.specs.Meanings.{Content, Meaning, In, Wrote, Flushed}
+use Rattle.cards.specs.Meanings.{Content, Meaning, In, Flushed}
 use Rattle.cards.specs.Shelves.{Held, shelved}
 
 pub record Saved (m o : Meaning) (b : ℕ) (c : Content) (r : Result (Unit {0}) Fault) : Type 0 where

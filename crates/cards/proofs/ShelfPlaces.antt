@@ -17,7 +17,7 @@ use Rattle.cards.specs.OnShelf.{held, held-of}
 use Rattle.cards.specs.Blocks.{content}
 use Rattle.cards.specs.Meanings.{Content}
 use Rattle.cards.proofs.BlockLaws.{content-is}
-use Rattle.cards.specs.Shelves.{Held, place-from, place-of, stored-at, stored}
+use Rattle.cards.specs.Shelves.{Held, place-from, place-of, stays, stored-at, stored}
 use Rattle.cards.specs.declared.place.Place.{Place}
 
 -- the places in use, however many are said to be used
@@ -99,13 +99,13 @@ module _ (ps : List Place) (used b : ℕ) (c : Content) (q : Place) (whole : len
       ∙ ap (λ o. stored-at o (held-of (take used ps)) b c) (sym at)
 
   pub held-added : (rs : List Place) (next : ℕ) → next < length rs → place-of (held-of (take used ps)) b ≡ None
-      → held-of (take next rs) ≡ cond (ltb (length (held-of (take used ps))) 4) (held-of (take used ps)) []
+      → held-of (take next rs) ≡ stays (held-of (take used ps))
       → held-of (take (next + 1) (set rs next q)) ≡ stored (held-of (take used ps)) b c
   held-added rs next lt at room =
       ap held-of (take-more-set rs next q lt)
       ∙ map-push held (take next rs) q
       ∙ ap (λ hs. hs ++ held q ∷ []) room
-      ∙ ap (λ h. cond (ltb (length (held-of (take used ps))) 4) (held-of (take used ps)) [] ++ h ∷ []) stored-place
+      ∙ ap (λ h. stays (held-of (take used ps)) ++ h ∷ []) stored-place
       ∙ ap (λ o. stored-at o (held-of (take used ps)) b c) (sym at)
 
 -- a block found among the places in use

@@ -38,11 +38,18 @@ abbrev pub place-of : List Held → ℕ → Option ℕ
 place-of [] b = None
 place-of (h ∷ hs) b = place-from (eqb (h .0) b) (place-of hs b)
 
--- what the places hold after a write of c to block b: it replaces the block's place, or takes the next of four, and a
--- shelf with four other blocks is emptied first
+-- Room for one block more: a shelf with four blocks on it is emptied, and they are written below. What stays on the
+-- shelf, and what goes below.
+abbrev pub stays : List Held → List Held
+stays hs = cond (ltb (length hs) 4) hs []
+
+abbrev pub goes : List Held → List Held
+goes hs = cond (ltb (length hs) 4) [] hs
+
+-- what the places hold after a write of c to block b: it replaces the block's place, or takes the next empty one
 abbrev pub stored-at : Option ℕ → List Held → ℕ → Content → List Held
 stored-at (Some i) hs b c = set hs i (b, c)
-stored-at None hs b c = cond (ltb (length hs) 4) hs [] ++ (b, c) ∷ []
+stored-at None hs b c = stays hs ++ (b, c) ∷ []
 
 abbrev pub stored : List Held → ℕ → Content → List Held
 stored hs b c = stored-at (place-of hs b) hs b c
@@ -50,7 +57,7 @@ stored hs b c = stored-at (place-of hs b) hs b c
 -- what such a write first writes to the card below
 abbrev pub spilled-at : Option ℕ → List Held → List Held
 spilled-at (Some i) hs = []
-spilled-at None hs = cond (ltb (length hs) 4) [] hs
+spilled-at None hs = goes hs
 
 abbrev pub spilled : List Held → ℕ → List Held
 spilled hs b = spilled-at (place-of hs b) hs

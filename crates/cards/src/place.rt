@@ -5,14 +5,14 @@ use crate::card::BLOCK_SIZE;
 
 // A block number and the block's bytes.
 #[derive(Clone, Copy)]
-pub struct Place {
-    pub block: usize,
-    pub bytes: [u8; BLOCK_SIZE],
+pub(crate) struct Place {
+    pub(crate) block: usize,
+    pub(crate) bytes: [u8; BLOCK_SIZE],
 }
 
 impl Place {
     // A place before its first use.
-    pub fn new() -> Place
+    pub(crate) fn new() -> Place
         ensures block { λ r. ⌜ r .block ≡ 0 ⌝ }
         ensures bytes { λ r. ⌜ r .bytes ≡ replicate 512 0 ⌝ }
     {
@@ -23,7 +23,7 @@ impl Place {
     }
 
     // Takes up these bytes for block b.
-    pub fn store(&mut self, b: usize, bytes: &[u8])
+    pub(crate) fn store(&mut self, b: usize, bytes: &[u8])
         requires { ⌜ length (now bytes) ≡ 512 ⌝ }
         ensures block { λ _. ⌜ now (self .exit) .block ≡ b ⌝ }
         ensures bytes { λ _. ⌜ now (self .exit) .bytes ≡ now (bytes .entry) ⌝ }

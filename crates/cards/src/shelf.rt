@@ -4,14 +4,13 @@ ghost use mathlib.Core.Bool.{cond};
 ghost use mathlib.Core.List.{[]};
 ghost use mathlib.Core.Path.{_≡_};
 ghost use Prim.Native.Nat.{_<_};
-ghost use lib.Dec.{ltb};
 ghost use lib.ListN.{length, take};
 ghost use Rattle.std.specs.Results.{isOk};
 ghost use Rattle.std.specs.Slices.{found};
 ghost use Rattle.cards.specs.Answers.{answer, Written};
 ghost use Rattle.cards.specs.Meanings.{Flushed, Lost};
 ghost use Rattle.cards.specs.OnShelf.{held-of, on-shelf, shelf-of};
-ghost use Rattle.cards.specs.Shelves.{place-of, stored, spilled, WroteAll, WroteAllFlushed};
+ghost use Rattle.cards.specs.Shelves.{place-of, stays, goes, stored, spilled, WroteAll, WroteAllFlushed};
 ghost use Rattle.cards.specs.SoundCards.{shelf-sound};
 use crate::blocks::admit;
 use crate::card::Card;
@@ -21,6 +20,7 @@ use crate::place::Place;
 // How many places a shelf has.
 const PLACES: usize = 4;
 
+// The card below, the places, and how many of them are in use.
 #[derive(Drop)]
 pub struct Shelf<C> {
     card: C,
@@ -88,8 +88,8 @@ impl<C: Card> Shelf<C> {
     fn make_room(&mut self)
         ensures room { λ _. ⌜ now (self .exit) .used < 4 ⌝ }
         ensures four { λ _. ⌜ length (now (self .exit) .places) ≡ 4 ⌝ }
-        ensures places { λ _. ⌜ on-shelf (now (self .exit)) ≡ cond (ltb (length (on-shelf (now (self .entry)))) 4) (on-shelf (now (self .entry))) [] ⌝ }
-        ensures below { λ _. ⌜ WroteAll (cond (ltb (length (on-shelf (now (self .entry)))) 4) [] (on-shelf (now (self .entry)))) (C·Card .meaning (now (self .entry) .card)) (C·Card .meaning (now (self .exit) .card)) ⌝ }
+        ensures places { λ _. ⌜ on-shelf (now (self .exit)) ≡ stays (on-shelf (now (self .entry))) ⌝ }
+        ensures below { λ _. ⌜ WroteAll (goes (on-shelf (now (self .entry)))) (C·Card .meaning (now (self .entry) .card)) (C·Card .meaning (now (self .exit) .card)) ⌝ }
         ensures lender { λ _. ⌜ C·Card .lenders (now (self .exit) .card) ≡ C·Card .lenders (now (self .entry) .card) ⌝ }
     {
         let places: &[Place] = &self.places;

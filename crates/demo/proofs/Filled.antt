@@ -4,7 +4,7 @@ use mathlib.Core.Logic.{inl, inr}
 use mathlib.Core.List.{List, _++_}
 use Prim.Native.Nat.{ℕ, _+_, _-_, _<_, min}
 use native.Mathlib.Omega.{arith}
-use lib.ListN.{length, getD, take, drop, replicate, length-take, length-drop, length-append, length-replicate}
+use lib.ListN.{length, take, drop, replicate, length-take, length-drop, length-append, length-replicate}
 use Rattle.std.proofs.shelf.Lists.{same-lists, getD-append-left, getD-append-right, getD-take, getD-drop, getD-replicate}
 use Rattle.std.proofs.shelf.Tests.{cases-lt}
 use Rattle.cards.specs.Blocks.{content}

@@ -1,4 +1,3 @@
-use borrow.Author.Needs.{needs}
 use mathlib.Core.Path.{refl}
 use Rattle.cards.specs.OnShelf.{on-shelf}
 use Rattle.cards.proofs.ShelfLaws.{shelf-lost}
