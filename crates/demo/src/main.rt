@@ -21,32 +21,32 @@ const ROUND_1: [Standing; 6] = [
     Standing {
         player: "Anna",
         round: 1,
-        half_points: 2,
+        halves: 2,
     },
     Standing {
         player: "Boris",
         round: 1,
-        half_points: 0,
+        halves: 0,
     },
     Standing {
         player: "Clara",
         round: 1,
-        half_points: 1,
+        halves: 1,
     },
     Standing {
         player: "Dmitri",
         round: 1,
-        half_points: 1,
+        halves: 1,
     },
     Standing {
         player: "Elena",
         round: 1,
-        half_points: 0,
+        halves: 0,
     },
     Standing {
         player: "Farid",
         round: 1,
-        half_points: 2,
+        halves: 2,
     },
 ];
 
@@ -54,32 +54,32 @@ const ROUND_2: [Standing; 6] = [
     Standing {
         player: "Anna",
         round: 2,
-        half_points: 3,
+        halves: 3,
     },
     Standing {
         player: "Boris",
         round: 2,
-        half_points: 0,
+        halves: 0,
     },
     Standing {
         player: "Clara",
         round: 2,
-        half_points: 3,
+        halves: 3,
     },
     Standing {
         player: "Dmitri",
         round: 2,
-        half_points: 1,
+        halves: 1,
     },
     Standing {
         player: "Elena",
         round: 2,
-        half_points: 2,
+        halves: 2,
     },
     Standing {
         player: "Farid",
         round: 2,
-        half_points: 3,
+        halves: 3,
     },
 ];
 
@@ -87,7 +87,7 @@ const ROUND_2: [Standing; 6] = [
 const LATE_ENTRY: Standing = Standing {
     player: "Galina",
     round: 1,
-    half_points: 0,
+    halves: 0,
 };
 
 // Bits 0, 2, 4 and 5 are set.
