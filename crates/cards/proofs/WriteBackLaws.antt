@@ -10,10 +10,13 @@ use lib.ListN.{length, drop}
 use borrow.Author.Count.{below-more}
 use Rattle.std.proofs.shelf.Tests.{eq-eqb, cond-true, cond-false}
 use Rattle.std.proofs.shelf.Ways.{decides-below-and, decides-eqb}
+use Rattle.std.specs.Results.{isOk}
+use Rattle.std.specs.declared.result.Result.the-variants.{Ok}
+use Rattle.cards.specs.Answers.{answer}
 use Rattle.cards.specs.Blocks.{shown-blocks, block-at, put-block}
 use Rattle.cards.specs.Meanings.{Content, Wrote, Flushed, Lost, In}
 use Rattle.cards.specs.SoundCards.{length-block}
-use Rattle.cards.specs.WriteBackCards.{pairs, kept, fresh, write-back, spared, left-of, Settled}
+use Rattle.cards.specs.WriteBackCards.{pairs, kept, fresh, write-back, back-write, fresh-stays, after-loss, Settled}
 use Rattle.cards.proofs.BlockLaws.{block-put, block-put-other, drop-put, length-put}
 
 same-pairs : (xs ys : List ℕ) → length ys ≡ length xs → pairs ys ≡ pairs xs
@@ -42,6 +45,9 @@ put-wrote xs c b whole lt =
 
 pub back-wrote : (xs c zs : List ℕ) (b : ℕ) → (length c ≡ 512) × (b < pairs xs) → zs ≡ put-block xs (pairs xs + b) c → Wrote (write-back xs) b c (write-back zs)
 back-wrote xs c zs b ok is = subst (λ zs. Wrote (write-back xs) b c (write-back zs)) (sym is) (put-wrote xs c b (ok .0) (ok .1))
+
+pub back-writes : (xs c zs : List ℕ) (b : ℕ) (u : Unit {0}) → Ok u ≡ answer (pairs xs) b (length c) → zs ≡ put-block xs (pairs xs + b) c → zs ≡ back-write xs b c
+back-writes xs c zs b u e is = is ∙ sym (cond-true (isOk (answer (pairs xs) b (length c))) _ _ (ap isOk (sym e)))
 
 -- ---- one copy over the other, block after block
 -- both copies of the blocks below b hold what f gives, and all else is as it was
@@ -93,19 +99,19 @@ put-more f xs ys b from to lt way is mid =
     }
 
 -- the turn of block b in which the fresh copy stays, and the one in which the kept copy does
-module _ (pattern : ℕ) (xs ys zs : List ℕ) (b n : ℕ) (counted : n ≡ pairs xs) (lt : b < pairs xs) (mid : Midway (left-of pattern xs) xs ys b) where
-  turned : (from to : ℕ) → Copied (pairs xs) b from to → block-at ys from ≡ left-of pattern xs b → zs ≡ put-block ys to (block-at ys from) → Midway (left-of pattern xs) xs zs (b + 1)
-  turned from to way is e = subst (λ zs. Midway (left-of pattern xs) xs zs (b + 1)) (sym e) (put-more (left-of pattern xs) xs ys b from to lt way is mid)
+module _ (pattern : ℕ) (xs ys zs : List ℕ) (b n : ℕ) (counted : n ≡ pairs xs) (lt : b < pairs xs) (mid : Midway (after-loss pattern xs) xs ys b) where
+  turned : (from to : ℕ) → Copied (pairs xs) b from to → block-at ys from ≡ after-loss pattern xs b → zs ≡ put-block ys to (block-at ys from) → Midway (after-loss pattern xs) xs zs (b + 1)
+  turned from to way is e = subst (λ zs. Midway (after-loss pattern xs) xs zs (b + 1)) (sym e) (put-more (after-loss pattern xs) xs ys b from to lt way is mid)
 
-  pub midway-fresh : spared pattern b ≡ true → zs ≡ put-block ys b (block-at ys (n + b)) → Midway (left-of pattern xs) xs zs (b + 1)
+  pub midway-fresh : fresh-stays pattern b ≡ true → zs ≡ put-block ys b (block-at ys (n + b)) → Midway (after-loss pattern xs) xs zs (b + 1)
   midway-fresh stays e =
       turned (n + b) b (inl (ap (λ n. n + b) counted, refl))
-      (ap (λ n. block-at ys (n + b)) counted ∙ mid .left b (omega arith) lt .1 ∙ sym (cond-true (spared pattern b) _ _ stays)) e
+      (ap (λ n. block-at ys (n + b)) counted ∙ mid .left b (omega arith) lt .1 ∙ sym (cond-true (fresh-stays pattern b) _ _ stays)) e
 
-  pub midway-kept : spared pattern b ≡ false → zs ≡ put-block ys (n + b) (block-at ys b) → Midway (left-of pattern xs) xs zs (b + 1)
+  pub midway-kept : fresh-stays pattern b ≡ false → zs ≡ put-block ys (n + b) (block-at ys b) → Midway (after-loss pattern xs) xs zs (b + 1)
   midway-kept goes e =
       turned b (n + b) (inr (refl, ap (λ n. n + b) counted))
-      (mid .left b (omega arith) lt .0 ∙ sym (cond-false (spared pattern b) _ _ goes)) e
+      (mid .left b (omega arith) lt .0 ∙ sym (cond-false (fresh-stays pattern b) _ _ goes)) e
 
 pub midway-all : (f : ℕ → Content) (xs ys : List ℕ) (b : ℕ) → pairs xs ≤ b → Midway f xs ys b → Settled f xs ys
 midway-all f xs ys b all mid = record {
@@ -130,11 +136,11 @@ left-in : (r : Bool) (f k : Content) → (cond r f k ≡ f) ⊎ ((cond r f k ≡
 left-in true f k = inl refl
 left-in false f k = inr (inl refl)
 
-pub back-lost : (pattern : ℕ) (xs ys : List ℕ) → Settled (left-of pattern xs) xs ys → Lost (write-back xs) (write-back ys)
+pub back-lost : (pattern : ℕ) (xs ys : List ℕ) → Settled (after-loss pattern xs) xs ys → Lost (write-back xs) (write-back ys)
 back-lost pattern xs ys s = record {
   size = same-pairs xs ys (s .size);
-  present = λ b l. subst (λ x. In x (write-back xs .doubt b)) (sym (s .fresh-is b l)) (left-in (spared pattern b) (fresh xs b) (kept xs b));
-  settled = only (left-of pattern xs) xs ys s;
+  present = λ b l. subst (λ x. In x (write-back xs .doubt b)) (sym (s .fresh-is b l)) (left-in (fresh-stays pattern b) (fresh xs b) (kept xs b));
+  settled = only (after-loss pattern xs) xs ys s;
 }
 
 -- ---- a barrier is a loss whose pattern has every bit set
@@ -146,10 +152,10 @@ all-set : (k : ℕ) → k < 64 → (2 ^ 64 - 1) / 2 ^ k % 2 ≡ 1
 unfolding bits-set
 all-set = decides-below-and _ (λ k. (2 ^ 64 - 1) / 2 ^ k % 2 ≡ 1) bits-set (λ k. decides-eqb _ 1) refl (λ _. refl) 64 .0 refl
 
-all-left : (xs : List ℕ) (b : ℕ) → left-of (2 ^ 64 - 1) xs b ≡ fresh xs b
-all-left xs b = cond-true (spared (2 ^ 64 - 1) b) (fresh xs b) (kept xs b) (eq-eqb _ 1 (all-set (b % 64) (omega arith)))
+all-left : (xs : List ℕ) (b : ℕ) → after-loss (2 ^ 64 - 1) xs b ≡ fresh xs b
+all-left xs b = cond-true (fresh-stays (2 ^ 64 - 1) b) (fresh xs b) (kept xs b) (eq-eqb _ 1 (all-set (b % 64) (omega arith)))
 
-pub settled-fresh : (xs ys : List ℕ) → Settled (left-of (2 ^ 64 - 1) xs) xs ys → Settled (fresh xs) xs ys
+pub settled-fresh : (xs ys : List ℕ) → Settled (after-loss (2 ^ 64 - 1) xs) xs ys → Settled (fresh xs) xs ys
 settled-fresh xs ys s = record {
   size = s .size;
   kept-is = λ b l. s .kept-is b l ∙ all-left xs b;

@@ -8,24 +8,24 @@ use lib.ListN.{length, set}
 use Rattle.std.specs.declared.option.Option.{Option}
 use Rattle.std.specs.declared.option.Option.the-variants.{Some, None}
 use Rattle.cards.specs.Answers.{answer, Written}
-use Rattle.cards.specs.Meanings.{Content, Meaning, Flushed}
+use Rattle.cards.specs.Meanings.{Content, Meaning}
 
 -- what a place in use holds
 abbrev pub Held : Type 0
 Held = ℕ × Content
 
 -- x, with what the places hold of block b put upon it by f, in place order
-abbrev pub laid : {A : Type 0} → (Content → A → A) → List Held → ℕ → A → A
-laid f [] b x = x
-laid f (h ∷ hs) b x = laid f hs b (cond (eqb (h .0) b) (f (h .1) x) x)
+abbrev pub overlaid : {A : Type 0} → (Content → A → A) → List Held → ℕ → A → A
+overlaid f [] b x = x
+overlaid f (h ∷ hs) b x = overlaid f hs b (cond (eqb (h .0) b) (f (h .1) x) x)
 
 -- A shelf that holds hs before a card that means m. A block on the shelf is present with its place's bytes, and its doubt
 -- is the doubt below with those bytes added.
 abbrev pub shelved : Meaning → List Held → Meaning
 shelved m hs = record {
   size = m .size;
-  present = λ b. laid (λ c x. c) hs b (m .present b);
-  doubt = λ b. laid _∷_ hs b (m .doubt b);
+  present = λ b. overlaid (λ c x. c) hs b (m .present b);
+  doubt = λ b. overlaid _∷_ hs b (m .doubt b);
 }
 
 -- the place of block b, the last if there are several; one behind the head of a list if there is one, else the head
@@ -55,18 +55,18 @@ abbrev pub stored : List Held → ℕ → Content → List Held
 stored hs b c = stored-at (place-of hs b) hs b c
 
 -- what such a write first writes to the card below
-abbrev pub spilled-at : Option ℕ → List Held → List Held
-spilled-at (Some i) hs = []
-spilled-at None hs = goes hs
+abbrev pub written-below-at : Option ℕ → List Held → List Held
+written-below-at (Some i) hs = []
+written-below-at None hs = goes hs
 
-abbrev pub spilled : List Held → ℕ → List Held
-spilled hs b = spilled-at (place-of hs b) hs
+abbrev pub written-below : List Held → ℕ → List Held
+written-below hs b = written-below-at (place-of hs b) hs
 
--- the card below went from m to n by one write for each place, in place order, and by nothing else
-abbrev pub WroteAll : List Held → Meaning → Meaning → Type 0
-WroteAll [] m n = n ≡ m
-WroteAll (h ∷ hs) m n = (k : Meaning) × Written (answer (m .size) (h .0) (length (h .1))) m (h .0) (h .1) k × WroteAll hs k n
+-- a card went from c to d by one write for each place, in place order, and by nothing else
+abbrev pub WroteEach : {S : Type 0} → (S → ℕ → Content → S → Type 0) → List Held → S → S → Type 0
+WroteEach {S} writes [] c d = d ≡ c
+WroteEach {S} writes (h ∷ hs) c d = (k : S) × writes c (h .0) (h .1) k × WroteEach writes hs k d
 
--- and then by a barrier
-abbrev pub WroteAllFlushed : List Held → Meaning → Meaning → Type 0
-WroteAllFlushed hs m n = (k : Meaning) × WroteAll hs m k × Flushed k n
+-- a write, by what a card means before and after it
+abbrev pub meant-write : Meaning → ℕ → Content → Meaning → Type 0
+meant-write m b c n = Written (answer (m .size) b (length c)) m b c n

@@ -12,7 +12,7 @@ use Rattle.cards.specs.Blocks.{content, block-at}
 use Rattle.cards.specs.Meanings.{Content, Meaning, In, Sound}
 use Rattle.cards.specs.OnShelf.{held-of, shelf-of}
 use Rattle.cards.specs.PlainCards.{plain}
-use Rattle.cards.specs.Shelves.{laid}
+use Rattle.cards.specs.Shelves.{overlaid}
 use Rattle.cards.specs.WriteBackCards.{pairs, write-back}
 use Rattle.cards.specs.declared.place.Place.{Place}
 use Rattle.cards.specs.declared.shelf.Shelf.{Shelf}
@@ -38,10 +38,10 @@ write-back-sound xs = record {
 }
 
 -- ---- what lies on a shelf has 512 bytes, and what is present on it is in doubt
-laid-held : (ps : List Place) (b : ℕ) (x : Content) (d : List Content) → In x d → In (laid (λ c y. c) (held-of ps) b x) (laid _∷_ (held-of ps) b d)
-laid-held [] b x d h = h
-laid-held (p ∷ ps) b x d h =
-    laid-held ps b _ _
+overlaid-held : (ps : List Place) (b : ℕ) (x : Content) (d : List Content) → In x d → In (overlaid (λ c y. c) (held-of ps) b x) (overlaid _∷_ (held-of ps) b d)
+overlaid-held [] b x d h = h
+overlaid-held (p ∷ ps) b x d h =
+    overlaid-held ps b _ _
     (elim (eqb (p .block) b) as (λ t. In (cond t (content (p .bytes)) x) (cond t (content (p .bytes) ∷ d) d)) [ true ↦ inl refl | false ↦ h ])
 
 pub length-content : (xs : List ℕ) → length (content xs) ≡ 512
@@ -50,11 +50,11 @@ length-content xs = simp (length-take, length-append, length-replicate) (omega a
 AllWhole : List Content → Type 0
 AllWhole d = (x : Content) → In x d → length x ≡ 512
 
-laid-whole : (ps : List Place) (b : ℕ) (d : List Content) → AllWhole d → AllWhole (laid _∷_ (held-of ps) b d)
+overlaid-whole : (ps : List Place) (b : ℕ) (d : List Content) → AllWhole d → AllWhole (overlaid _∷_ (held-of ps) b d)
 unfolding AllWhole
-laid-whole [] b d h = h
-laid-whole (p ∷ ps) b d h =
-    laid-whole ps b _
+overlaid-whole [] b d h = h
+overlaid-whole (p ∷ ps) b d h =
+    overlaid-whole ps b _
     (elim (eqb (p .block) b) as (λ t. AllWhole (cond t (content (p .bytes) ∷ d) d)) [ true ↦ λ x. ⊎-elim (λ is. ap length is ∙ length-content (p .bytes)) (h x) | false ↦ h ])
 
 pub shelf-sound : {C : Type 0} (meaning : C → Meaning) → ((c : C) → Sound (meaning c)) → (s : Shelf C) → Sound (shelf-of meaning s)
@@ -65,6 +65,6 @@ shelf-sound meaning sound s =
     let ps = take (s .used) (s .places) in
     record {
       few = ok .few;
-      held = λ b lt. laid-held ps b (m .present b) (m .doubt b) (ok .held b lt);
-      whole = λ b x lt. laid-whole ps b (m .doubt b) (λ y. ok .whole b y lt) x;
+      held = λ b lt. overlaid-held ps b (m .present b) (m .doubt b) (ok .held b lt);
+      whole = λ b x lt. overlaid-whole ps b (m .doubt b) (λ y. ok .whole b y lt) x;
     }

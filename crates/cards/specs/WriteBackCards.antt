@@ -6,7 +6,9 @@ use mathlib.Core.List.{List, [], _∷_}
 use Prim.Native.Nat.{ℕ, _+_, _*_, _/_, _%_, _^_, _<_}
 use lib.Dec.{eqb}
 use lib.ListN.{length, drop}
-use Rattle.cards.specs.Blocks.{shown-blocks, block-at}
+use Rattle.std.specs.Results.{isOk}
+use Rattle.cards.specs.Answers.{answer}
+use Rattle.cards.specs.Blocks.{shown-blocks, block-at, put-block}
 use Rattle.cards.specs.Meanings.{Content, Meaning}
 
 -- the number of blocks, each a pair of copies
@@ -26,13 +28,17 @@ write-back xs = record {
   doubt = λ b. fresh xs b ∷ (kept xs b ∷ []);
 }
 
+-- the bytes after a write of c to block b: the fresh copy is c, and every other byte is as it was
+abbrev pub back-write : List ℕ → ℕ → Content → List ℕ
+back-write xs b c = cond (isOk (answer (pairs xs) b (length c))) (put-block xs (pairs xs + b) c) xs
+
 -- whether a loss of power leaves block b its fresh copy: bit b mod 64 of the pattern, bit 0 the lowest
-abbrev pub spared : ℕ → ℕ → Bool
-spared pattern b = eqb (pattern / 2 ^ (b % 64) % 2) 1
+abbrev pub fresh-stays : ℕ → ℕ → Bool
+fresh-stays pattern b = eqb (pattern / 2 ^ (b % 64) % 2) 1
 
 -- the content that a loss of power leaves in block b
-abbrev pub left-of : ℕ → List ℕ → ℕ → Content
-left-of pattern xs b = cond (spared pattern b) (fresh xs b) (kept xs b)
+abbrev pub after-loss : ℕ → List ℕ → ℕ → Content
+after-loss pattern xs b = cond (fresh-stays pattern b) (fresh xs b) (kept xs b)
 
 -- xs became ys: both copies of each block b now hold f b, and the bytes past the copies are as they were
 pub record Settled (f : ℕ → Content) (xs ys : List ℕ) : Type 0 where

@@ -7,7 +7,7 @@ ghost use lib.ListN.{length};
 ghost use Rattle.std.specs.Results.{isOk};
 ghost use Rattle.cards.specs.Answers.{answer, Written};
 ghost use Rattle.cards.specs.Lenders.{Names};
-ghost use Rattle.cards.specs.Meanings.{Meaning, Sound, Flushed, Lost};
+ghost use Rattle.cards.specs.Meanings.{Content, Meaning, Sound, Flushed, Lost};
 use crate::fault::Fault;
 
 // The bytes of a block.
@@ -26,8 +26,12 @@ pub trait Card {
     // The memory that was lent to the card.
     ghost lenders: { Self → Names };
 
-    // What a loss of power under a pattern makes of a card of this make. Whatever stands before a card is held by this to
-    // pass the pattern on.
+    // What a write of these bytes to block b, a barrier, and a loss of power under a pattern make of a card of this make,
+    // exactly. The contract of what stands before a card says by these which calls reach the card, and in which order.
+    ghost writes: { Self → ℕ → Content → Self → Type 0 };
+
+    ghost flushes: { Self → Self → Type 0 };
+
     ghost loses: { Self → ℕ → Self → Type 0 };
 
     // The number of blocks.
@@ -43,11 +47,13 @@ pub trait Card {
     fn write(&mut self, b: usize, bytes: &[u8]) -> Result<(), Fault>
         ensures value { λ r. ⌜ r ≡ answer (meaning (now (self .entry)) .size) b (length (now (bytes .entry))) ⌝ }
         ensures card { λ r. ⌜ Written r (meaning (now (self .entry))) b (now (bytes .entry)) (meaning (now (self .exit))) ⌝ }
+        ensures exact { λ _. ⌜ writes (now (self .entry)) b (now (bytes .entry)) (now (self .exit)) ⌝ }
         ensures lender { λ _. ⌜ lenders (now (self .exit)) ≡ lenders (now (self .entry)) ⌝ };
 
-    // Leaves only present contents in doubt.
+    // Leaves only present contents in doubt, and changes none of them.
     fn barrier(&mut self)
         ensures card { λ _. ⌜ Flushed (meaning (now (self .entry))) (meaning (now (self .exit))) ⌝ }
+        ensures exact { λ _. ⌜ flushes (now (self .entry)) (now (self .exit)) ⌝ }
         ensures lender { λ _. ⌜ lenders (now (self .exit)) ≡ lenders (now (self .entry)) ⌝ };
 
     // Loses power. The pattern stands for the chance by which each block keeps one of its contents in doubt.

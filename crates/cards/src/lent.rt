@@ -12,6 +12,10 @@ pub impl<C: Card> Card for &mut C as LentCard {
 
     ghost lenders = { λ c. name c ∷ C·Card .lenders (now c) };
 
+    ghost writes = { λ c b x d. C·Card .writes (now c) b x (now d) };
+
+    ghost flushes = { λ c d. C·Card .flushes (now c) (now d) };
+
     ghost loses = { λ c pattern d. C·Card .loses (now c) pattern (now d) };
 
     fn blocks(&self) -> usize {

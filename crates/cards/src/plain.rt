@@ -1,14 +1,11 @@
 // A card that writes straight through to lent bytes. Nothing waits, so a loss of power changes nothing.
-ghost use mathlib.Core.Bool.{cond};
 ghost use mathlib.Core.Path.{_≡_};
 ghost use denote.Ref.{now};
 ghost use lib.ListN.{length};
-ghost use Rattle.std.specs.Results.{isOk};
 ghost use Rattle.cards.specs.Answers.{answer, Written};
-ghost use Rattle.cards.specs.Blocks.{put-block};
 ghost use Rattle.cards.specs.Lenders.{lent};
 ghost use Rattle.cards.specs.Meanings.{Flushed, Lost};
-ghost use Rattle.cards.specs.PlainCards.{plain};
+ghost use Rattle.cards.specs.PlainCards.{plain, plain-write};
 ghost use Rattle.cards.specs.SoundCards.{plain-sound};
 use crate::blocks::admit;
 use crate::blocks::count;
@@ -40,6 +37,10 @@ pub impl Card for PlainCard<'_> as PlainCardCard {
 
     ghost lenders = { λ c. lent (c .bytes) };
 
+    ghost writes = { λ c b x d. now (d .bytes) ≡ plain-write (now (c .bytes)) b x };
+
+    ghost flushes = { λ c d. now (d .bytes) ≡ now (c .bytes) };
+
     ghost loses = { λ c _ d. now (d .bytes) ≡ now (c .bytes) };
 
     fn blocks(&self) -> usize {
@@ -56,7 +57,7 @@ pub impl Card for PlainCard<'_> as PlainCardCard {
         ensures value { λ r. ⌜ r ≡ answer (plain (now (now (self .entry) .bytes)) .size) b (length (now (bytes .entry))) ⌝ }
         ensures card { λ r. ⌜ Written r (plain (now (now (self .entry) .bytes))) b (now (bytes .entry)) (plain (now (now (self .exit) .bytes))) ⌝ }
         ensures lender { λ _. ⌜ lent (now (self .exit) .bytes) ≡ lent (now (self .entry) .bytes) ⌝ }
-        ensures exact { λ r. ⌜ now (now (self .exit) .bytes) ≡ cond (isOk r) (put-block (now (now (self .entry) .bytes)) b (now (bytes .entry))) (now (now (self .entry) .bytes)) ⌝ }
+        ensures exact { λ _. ⌜ now (now (self .exit) .bytes) ≡ plain-write (now (now (self .entry) .bytes)) b (now (bytes .entry)) ⌝ }
     {
         admit(count(self.bytes.len(), BLOCK_SIZE), b, bytes.len())?;
         put_block(self.bytes, b, bytes);

@@ -1,16 +1,15 @@
-// A card before another card that holds back the last few writes. It has four places. A write takes up a place, a
-// barrier writes the places to the card below, and a loss of power forgets them.
-ghost use mathlib.Core.Bool.{cond};
+// A card before another card that holds back the last few writes. It has four places. A write replaces its block's place
+// or takes the next empty one; if four other blocks are on the shelf, these are first written to the card below. A barrier
+// writes the places below and empties them, and a loss of power forgets them.
 ghost use mathlib.Core.List.{[]};
 ghost use mathlib.Core.Path.{_≡_};
 ghost use Prim.Native.Nat.{_<_};
 ghost use lib.ListN.{length, take};
-ghost use Rattle.std.specs.Results.{isOk};
 ghost use Rattle.std.specs.Slices.{found};
 ghost use Rattle.cards.specs.Answers.{answer, Written};
 ghost use Rattle.cards.specs.Meanings.{Flushed, Lost};
-ghost use Rattle.cards.specs.OnShelf.{held-of, on-shelf, shelf-of};
-ghost use Rattle.cards.specs.Shelves.{place-of, stays, goes, stored, spilled, WroteAll, WroteAllFlushed};
+ghost use Rattle.cards.specs.OnShelf.{held-of, on-shelf, shelf-of, ShelfWrites, ShelfFlushes, ShelfLoses};
+ghost use Rattle.cards.specs.Shelves.{place-of, stays, goes, meant-write, WroteEach};
 ghost use Rattle.cards.specs.SoundCards.{shelf-sound};
 use crate::blocks::admit;
 use crate::card::Card;
@@ -50,9 +49,11 @@ fn find(places: &[Place], b: usize) -> Option<usize>
     at
 }
 
-// Writes the places to the card, in order. A place holds only a block that the card has, so no write is refused.
+// Writes the places to the card, in order. `write` took up no block that the card does not have, so the card refuses none
+// of them, and their answers are let go.
 fn write_all<C: Card>(card: &mut C, places: &[Place])
-    ensures below { λ _. ⌜ WroteAll (held-of (now (places .entry))) (C·Card .meaning (now (card .entry))) (C·Card .meaning (now (card .exit))) ⌝ }
+    ensures below { λ _. ⌜ WroteEach (C·Card .writes) (held-of (now (places .entry))) (now (card .entry)) (now (card .exit)) ⌝ }
+    ensures meant { λ _. ⌜ WroteEach meant-write (held-of (now (places .entry))) (C·Card .meaning (now (card .entry))) (C·Card .meaning (now (card .exit))) ⌝ }
     ensures lender { λ _. ⌜ C·Card .lenders (now (card .exit)) ≡ C·Card .lenders (now (card .entry)) ⌝ }
 {
     for place in places {
@@ -75,7 +76,8 @@ impl<C: Card> Shelf<C> {
 
     // Writes the places in use to the card below, and takes them off.
     fn flush(&mut self)
-        ensures below { λ _. ⌜ WroteAll (on-shelf (now (self .entry))) (C·Card .meaning (now (self .entry) .card)) (C·Card .meaning (now (self .exit) .card)) ⌝ }
+        ensures below { λ _. ⌜ WroteEach (C·Card .writes) (on-shelf (now (self .entry))) (now (self .entry) .card) (now (self .exit) .card) ⌝ }
+        ensures meant { λ _. ⌜ WroteEach meant-write (on-shelf (now (self .entry))) (C·Card .meaning (now (self .entry) .card)) (C·Card .meaning (now (self .exit) .card)) ⌝ }
         ensures lender { λ _. ⌜ C·Card .lenders (now (self .exit) .card) ≡ C·Card .lenders (now (self .entry) .card) ⌝ }
         ensures used { λ _. ⌜ now (self .exit) .used ≡ 0 ⌝ }
         ensures places { λ _. ⌜ now (self .exit) .places ≡ now (self .entry) .places ⌝ }
@@ -84,12 +86,13 @@ impl<C: Card> Shelf<C> {
         self.used = 0;
     }
 
-    // Takes everything off a full shelf.
+    // Flushes a full shelf, and leaves any other as it is.
     fn make_room(&mut self)
         ensures room { λ _. ⌜ now (self .exit) .used < 4 ⌝ }
         ensures four { λ _. ⌜ length (now (self .exit) .places) ≡ 4 ⌝ }
         ensures places { λ _. ⌜ on-shelf (now (self .exit)) ≡ stays (on-shelf (now (self .entry))) ⌝ }
-        ensures below { λ _. ⌜ WroteAll (goes (on-shelf (now (self .entry)))) (C·Card .meaning (now (self .entry) .card)) (C·Card .meaning (now (self .exit) .card)) ⌝ }
+        ensures below { λ _. ⌜ WroteEach (C·Card .writes) (goes (on-shelf (now (self .entry)))) (now (self .entry) .card) (now (self .exit) .card) ⌝ }
+        ensures meant { λ _. ⌜ WroteEach meant-write (goes (on-shelf (now (self .entry)))) (C·Card .meaning (now (self .entry) .card)) (C·Card .meaning (now (self .exit) .card)) ⌝ }
         ensures lender { λ _. ⌜ C·Card .lenders (now (self .exit) .card) ≡ C·Card .lenders (now (self .entry) .card) ⌝ }
     {
         let places: &[Place] = &self.places;
@@ -106,7 +109,11 @@ pub impl<C: Card> Card for Shelf<C> as ShelfCard {
 
     ghost lenders = { λ s. C·Card .lenders (s .card) };
 
-    ghost loses = { λ s pattern t. (on-shelf t ≡ []) × C·Card .loses (s .card) pattern (t .card) };
+    ghost writes = { λ s b x t. ShelfWrites (C·Card .meaning) (C·Card .writes) s b x t };
+
+    ghost flushes = { λ s t. ShelfFlushes (C·Card .writes) (C·Card .flushes) s t };
+
+    ghost loses = { λ s pattern t. ShelfLoses (C·Card .loses) s pattern t };
 
     fn blocks(&self) -> usize {
         self.card.blocks()
@@ -128,8 +135,7 @@ pub impl<C: Card> Card for Shelf<C> as ShelfCard {
         ensures value { λ r. ⌜ r ≡ answer (C·Card .meaning (now (self .entry) .card) .size) b (length (now (bytes .entry))) ⌝ }
         ensures card { λ r. ⌜ Written r (shelf-of (C·Card .meaning) (now (self .entry))) b (now (bytes .entry)) (shelf-of (C·Card .meaning) (now (self .exit))) ⌝ }
         ensures lender { λ _. ⌜ C·Card .lenders (now (self .exit) .card) ≡ C·Card .lenders (now (self .entry) .card) ⌝ }
-        ensures places { λ r. ⌜ on-shelf (now (self .exit)) ≡ cond (isOk r) (stored (on-shelf (now (self .entry))) b (now (bytes .entry))) (on-shelf (now (self .entry))) ⌝ }
-        ensures below { λ r. ⌜ WroteAll (cond (isOk r) (spilled (on-shelf (now (self .entry))) b) []) (C·Card .meaning (now (self .entry) .card)) (C·Card .meaning (now (self .exit) .card)) ⌝ }
+        ensures exact { λ _. ⌜ ShelfWrites (C·Card .meaning) (C·Card .writes) (now (self .entry)) b (now (bytes .entry)) (now (self .exit)) ⌝ }
     {
         admit(self.card.blocks(), b, bytes.len())?;
         let places: &[Place] = &self.places;
@@ -147,8 +153,7 @@ pub impl<C: Card> Card for Shelf<C> as ShelfCard {
     fn barrier(&mut self)
         ensures card { λ _. ⌜ Flushed (shelf-of (C·Card .meaning) (now (self .entry))) (shelf-of (C·Card .meaning) (now (self .exit))) ⌝ }
         ensures lender { λ _. ⌜ C·Card .lenders (now (self .exit) .card) ≡ C·Card .lenders (now (self .entry) .card) ⌝ }
-        ensures places { λ _. ⌜ on-shelf (now (self .exit)) ≡ [] ⌝ }
-        ensures below { λ _. ⌜ WroteAllFlushed (on-shelf (now (self .entry))) (C·Card .meaning (now (self .entry) .card)) (C·Card .meaning (now (self .exit) .card)) ⌝ }
+        ensures exact { λ _. ⌜ ShelfFlushes (C·Card .writes) (C·Card .flushes) (now (self .entry)) (now (self .exit)) ⌝ }
     {
         self.flush();
         self.card.barrier();
@@ -157,8 +162,7 @@ pub impl<C: Card> Card for Shelf<C> as ShelfCard {
     fn lose_power(&mut self, pattern: u64)
         ensures card { λ _. ⌜ Lost (shelf-of (C·Card .meaning) (now (self .entry))) (shelf-of (C·Card .meaning) (now (self .exit))) ⌝ }
         ensures lender { λ _. ⌜ C·Card .lenders (now (self .exit) .card) ≡ C·Card .lenders (now (self .entry) .card) ⌝ }
-        ensures exact { λ _. ⌜ (on-shelf (now (self .exit)) ≡ []) × C·Card .loses (now (self .entry) .card) pattern (now (self .exit) .card) ⌝ }
-        ensures below { λ _. ⌜ Lost (C·Card .meaning (now (self .entry) .card)) (C·Card .meaning (now (self .exit) .card)) ⌝ }
+        ensures exact { λ _. ⌜ ShelfLoses (C·Card .loses) (now (self .entry)) pattern (now (self .exit)) ⌝ }
     {
         self.used = 0;
         self.card.lose_power(pattern);

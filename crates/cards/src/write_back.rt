@@ -1,17 +1,14 @@
 // A card over lent bytes whose writes wait. Each block has two copies: a write changes the fresh one, a barrier makes
 // the kept one equal to it, and a loss of power leaves one of the two.
-ghost use mathlib.Core.Bool.{cond};
 ghost use mathlib.Core.Path.{_≡_};
 ghost use Prim.Native.Nat.{_+_, _*_};
 ghost use denote.Ref.{now};
 ghost use lib.ListN.{length};
-ghost use Rattle.std.specs.Results.{isOk};
 ghost use Rattle.cards.specs.Answers.{answer, Written};
-ghost use Rattle.cards.specs.Blocks.{put-block};
 ghost use Rattle.cards.specs.Lenders.{lent};
 ghost use Rattle.cards.specs.Meanings.{Flushed, Lost};
 ghost use Rattle.cards.specs.SoundCards.{write-back-sound};
-ghost use Rattle.cards.specs.WriteBackCards.{write-back, pairs, fresh, spared, left-of, Settled};
+ghost use Rattle.cards.specs.WriteBackCards.{write-back, back-write, pairs, fresh, fresh-stays, after-loss, Settled};
 use crate::blocks::admit;
 use crate::blocks::copy_block;
 use crate::blocks::count;
@@ -32,21 +29,21 @@ pub struct WriteBackCard<'a> {
     bytes: &'a mut [u8],
 }
 
-// Whether the pattern leaves block b its fresh copy.
-fn spares(pattern: u64, b: usize) -> bool
-    ensures { λ r. ⌜ r ≡ spared pattern b ⌝ }
+// Whether a loss under the pattern leaves block b its fresh copy.
+fn fresh_stays(pattern: u64, b: usize) -> bool
+    ensures { λ r. ⌜ r ≡ fresh-stays pattern b ⌝ }
 {
     (pattern >> (b % 64)) % 2 == 1
 }
 
-// Copies one copy of each block over the other: the fresh one over the kept one where the pattern spares it, else the
-// kept one over the fresh one.
+// Copies one copy of each block over the other: the fresh one over the kept one where the pattern says that it stays,
+// else the kept one over the fresh one.
 fn settle(bytes: &mut [u8], pattern: u64)
-    ensures { λ _. ⌜ Settled (left-of pattern (now (bytes .entry))) (now (bytes .entry)) (now (bytes .exit)) ⌝ }
+    ensures { λ _. ⌜ Settled (after-loss pattern (now (bytes .entry))) (now (bytes .entry)) (now (bytes .exit)) ⌝ }
 {
     let n = count(bytes.len(), PAIR_SIZE);
     for b in 0..n {
-        if spares(pattern, b) {
+        if fresh_stays(pattern, b) {
             copy_block(bytes, n + b, b);
         } else {
             copy_block(bytes, b, n + b);
@@ -71,7 +68,11 @@ pub impl Card for WriteBackCard<'_> as WriteBackCardCard {
 
     ghost lenders = { λ c. lent (c .bytes) };
 
-    ghost loses = { λ c pattern d. Settled (left-of pattern (now (c .bytes))) (now (c .bytes)) (now (d .bytes)) };
+    ghost writes = { λ c b x d. now (d .bytes) ≡ back-write (now (c .bytes)) b x };
+
+    ghost flushes = { λ c d. Settled (fresh (now (c .bytes))) (now (c .bytes)) (now (d .bytes)) };
+
+    ghost loses = { λ c pattern d. Settled (after-loss pattern (now (c .bytes))) (now (c .bytes)) (now (d .bytes)) };
 
     fn blocks(&self) -> usize {
         count(self.bytes.len(), PAIR_SIZE)
@@ -88,7 +89,7 @@ pub impl Card for WriteBackCard<'_> as WriteBackCardCard {
         ensures value { λ r. ⌜ r ≡ answer (pairs (now (now (self .entry) .bytes))) b (length (now (bytes .entry))) ⌝ }
         ensures card { λ r. ⌜ Written r (write-back (now (now (self .entry) .bytes))) b (now (bytes .entry)) (write-back (now (now (self .exit) .bytes))) ⌝ }
         ensures lender { λ _. ⌜ lent (now (self .exit) .bytes) ≡ lent (now (self .entry) .bytes) ⌝ }
-        ensures exact { λ r. ⌜ now (now (self .exit) .bytes) ≡ cond (isOk r) (put-block (now (now (self .entry) .bytes)) (pairs (now (now (self .entry) .bytes)) + b) (now (bytes .entry))) (now (now (self .entry) .bytes)) ⌝ }
+        ensures exact { λ _. ⌜ now (now (self .exit) .bytes) ≡ back-write (now (now (self .entry) .bytes)) b (now (bytes .entry)) ⌝ }
     {
         let n = count(self.bytes.len(), PAIR_SIZE);
         admit(n, b, bytes.len())?;
@@ -107,7 +108,7 @@ pub impl Card for WriteBackCard<'_> as WriteBackCardCard {
     fn lose_power(&mut self, pattern: u64)
         ensures card { λ _. ⌜ Lost (write-back (now (now (self .entry) .bytes))) (write-back (now (now (self .exit) .bytes))) ⌝ }
         ensures lender { λ _. ⌜ lent (now (self .exit) .bytes) ≡ lent (now (self .entry) .bytes) ⌝ }
-        ensures exact { λ _. ⌜ Settled (left-of pattern (now (now (self .entry) .bytes))) (now (now (self .entry) .bytes)) (now (now (self .exit) .bytes)) ⌝ }
+        ensures exact { λ _. ⌜ Settled (after-loss pattern (now (now (self .entry) .bytes))) (now (now (self .entry) .bytes)) (now (now (self .exit) .bytes)) ⌝ }
     {
         settle(self.bytes, pattern);
     }

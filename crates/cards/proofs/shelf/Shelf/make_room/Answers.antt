@@ -5,7 +5,7 @@ use mathlib.Core.List.{[]}
 use Prim.Native.Nat.{_<_}
 use lib.ListN.{length, take}
 use Rattle.cards.specs.OnShelf.{held-of, on-shelf}
-use Rattle.cards.specs.Shelves.{WroteAll}
+use Rattle.cards.specs.Shelves.{meant-write, WroteEach}
 use Rattle.cards.proofs.ShelfPlaces.{full, roomy}
 use Rattle.cards.proofs.shelf.Shelf.make_room.Needs as need
 
@@ -20,7 +20,8 @@ returns-then-self-places g c =
       room = search needs;
       four = ap length (c .flush .ensures .places) ∙ four;
       places = ap (λ k. held-of (take k (t .places))) (c .flush .ensures .used) ∙ sym (ap (λ b. cond b (on-shelf s) []) no-room);
-      below = subst (λ b. WroteAll (cond b [] (on-shelf s)) (meaning (s .card)) (meaning (t .card))) (sym no-room) (c .flush .ensures .below);
+      below = subst (λ b. WroteEach (g .C·Card .writes) (cond b [] (on-shelf s)) (s .card) (t .card)) (sym no-room) (c .flush .ensures .below);
+      meant = subst (λ b. WroteEach meant-write (cond b [] (on-shelf s)) (meaning (s .card)) (meaning (t .card))) (sym no-room) (c .flush .ensures .meant);
       lender = c .flush .ensures .lender;
     }
 
@@ -34,6 +35,7 @@ returns-else-self-places g c =
       room = room;
       four = search needs;
       places = sym (ap (λ b. cond b (on-shelf s) []) left);
-      below = subst (λ b. WroteAll (cond b [] (on-shelf s)) (meaning (s .card)) (meaning (s .card))) (sym left) refl;
+      below = subst (λ b. WroteEach (g .C·Card .writes) (cond b [] (on-shelf s)) (s .card) (s .card)) (sym left) refl;
+      meant = subst (λ b. WroteEach meant-write (cond b [] (on-shelf s)) (meaning (s .card)) (meaning (s .card))) (sym left) refl;
       lender = refl;
     }

@@ -10,6 +10,5 @@ returns g c =
     record {
       card = shelf-lost (on-shelf s) (meaning (s .card)) (meaning (c .lose-power .last .self)) (c .lose-power .ensures .card);
       lender = c .lose-power .ensures .lender;
-      exact = (refl, c .lose-power .ensures .exact);
-      below = c .lose-power .ensures .card;
+      exact = record { places = refl; below = c .lose-power .ensures .exact };
     }

@@ -3,7 +3,7 @@ use mathlib.Core.Path.{sym, ap, _∙_}
 use mathlib.Core.Bool.{cond}
 use Rattle.std.specs.Results.{isOk}
 use Rattle.cards.specs.OnShelf.{held-of, on-shelf}
-use Rattle.cards.specs.Shelves.{laid, place-of}
+use Rattle.cards.specs.Shelves.{overlaid, place-of}
 use Rattle.cards.proofs.ShelfLaws.{over-at, over-absent}
 use Rattle.cards.proofs.ShelfPlaces.{held-at}
 use Rattle.cards.proofs.shelf.ShelfCard.read.Needs as need
@@ -21,7 +21,7 @@ returns-in-Some g c =
           c .copy-from-slice .ensures .after
           ∙ held-at qs i (c .in-Some .ensures tt .within) (search needs)
           ∙ sym (over-at (held-of qs) b i x (sym (c .in-Some .ensures tt .value)))
-          ∙ ap (λ hs. laid (λ c y. c) hs b x) is;
+          ∙ ap (λ hs. overlaid (λ c y. c) hs b x) is;
     }
 
 pub returns-in-None : need.returns-in-None
