@@ -1,12 +1,12 @@
 use native.Mathlib.Omega.{arith}
-use mathlib.Core.Path.{_≡_, sym, ap, _∙_}
+use mathlib.Core.Bool.{cond}
+use mathlib.Core.Path.{_≡_, ap, _∙_}
 use Prim.Native.Nat.{_<_}
 use lib.ListN.{length}
-use Rattle.std.proofs.shelf.Tests.{cond-true}
 use Rattle.std.proofs.shelf.Ways.{tells}
 use Rattle.std.specs.Results.{isOk}
 use Rattle.cards.specs.Answers.{answer}
-use Rattle.card_cases.proofs.Outlives.{outlives}
+use Rattle.card_cases.proofs.Outlives.{outlives, when-true-is}
 use Rattle.card_cases.proofs.durable.save_and_lose.Needs as need
 
 pub returns : need.returns
@@ -19,10 +19,13 @@ returns g c =
     let size : k .size ≡ m .size = l .size ∙ f .size ∙ w .card .size in
     let lt : c .args .b < m .size = grind (arith, tells, w .value) in
     let kept = outlives m _ _ k (c .args .b) _ lt (w .card) f l in
+    let ok = ap isOk (w .value) in
     record {
       value =
           c .read .ensures .value
           ∙ ap (λ s. answer s (c .args .b) (length (c .args .buffer .now))) size
-          ∙ sym (cond-true (isOk (answer (m .size) (c .args .b) (length (c .args .block .now)))) _ _ (ap isOk (sym (w .value))));
-      survives = λ ok. grind (arith, kept, c .read .ensures .buffer);
+          ∙ ap (λ t. cond t (answer (m .size) (c .args .b) (length (c .args .buffer .now))) (answer (m .size) (c .args .b) (length (c .args .block .now)))) ok;
+      buffer = c .read .ensures .buffer ∙ ap (λ x. cond (isOk (c .read .result)) x (c .args .buffer .now)) kept;
+      card = when-true-is _ _ _ ok (c .write .last .self, c .barrier .last .self, w .exact, c .barrier .ensures .exact, c .lose-power .ensures .exact);
+      lender = c .lose-power .ensures .lender ∙ c .barrier .ensures .lender ∙ w .lender;
     }
