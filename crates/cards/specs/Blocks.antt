@@ -5,7 +5,7 @@ use lib.ListN.{take, drop, replicate}
 
 -- how many blocks a card shows of memory of this length, at so many bytes for each: at most 65,535
 abbrev pub shown-blocks : ℕ → ℕ → ℕ
-shown-blocks length each = min (length / each) 65535
+shown-blocks len each = min (len / each) 65535
 
 -- Bytes as the content of a block: others than 512 are cut, or filled up with zeros.
 abbrev pub content : List ℕ → List ℕ

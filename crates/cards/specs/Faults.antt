@@ -21,7 +21,7 @@ extent-word Logical = 1
 extent-word Physical = 2
 
 abbrev pub number-of : Fault → ℕ
-number-of (BufferLength layer length) = 1
+number-of (BufferLength layer n) = 1
 number-of (CardBlock block) = 2
 number-of (LogicalBlock block) = 3
 number-of (TableBlock block) = 4
@@ -34,7 +34,7 @@ number-of (LowCount block) = 10
 number-of Full = 11
 
 abbrev pub layer-of : Fault → Layer
-layer-of (BufferLength layer length) = layer
+layer-of (BufferLength layer n) = layer
 layer-of (CardBlock block) = Card
 layer-of (LogicalBlock block) = Volume
 layer-of (TableBlock block) = Volume
@@ -47,7 +47,7 @@ layer-of (LowCount block) = Volume
 layer-of Full = Volume
 
 abbrev pub places-of : Fault → ℕ × ℕ
-places-of (BufferLength layer length) = (length, 0)
+places-of (BufferLength layer n) = (n, 0)
 places-of (CardBlock block) = (block, 0)
 places-of (LogicalBlock block) = (block, 0)
 places-of (TableBlock block) = (block, 0)

@@ -8,5 +8,5 @@ abbrev pub Names : Type 0
 Names = List GName
 
 -- a card over this one loan
-abbrev pub lent : {X : Type 0} → RefT X → Names
-lent r = name r ∷ []
+abbrev pub loan : {X : Type 0} → RefT X → Names
+loan r = name r ∷ []

@@ -1,5 +1,6 @@
 -- What a card means. A card has a fixed number of blocks. A block has a present content, which a read answers, and
--- contents in doubt: those that a loss of power may leave in it. A content is 512 bytes.
+-- contents in doubt: those that a loss of power may leave in it. A content is 512 bytes; that each is below 256 comes from
+-- the buffer that it is read into, and not from here.
 use mathlib.Core.Path.{_≡_}
 use mathlib.Core.Logic.{_⊎_}
 use mathlib.Core.List.{List, [], _∷_}
@@ -22,7 +23,7 @@ In x (y ∷ ys) = (x ≡ y) ⊎ In x ys
 -- what holds of every card: at most 65,535 blocks, present contents are in doubt, and contents are 512 bytes
 pub record Sound (m : Meaning) : Type 0 where
   pub few : m .size ≤ 65535
-  pub held : (b : ℕ) → b < m .size → In (m .present b) (m .doubt b)
+  pub in-doubt : (b : ℕ) → b < m .size → In (m .present b) (m .doubt b)
   pub whole : (b : ℕ) (x : Content) → b < m .size → In x (m .doubt b) → length x ≡ 512
 
 -- A write of c to block b makes c present there. In doubt there are then c and at most what was in doubt before. The

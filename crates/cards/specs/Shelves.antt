@@ -1,4 +1,5 @@
--- The shelf: a few writes held back before a card. It has four places; a place holds a block number and a content.
+-- The shelf: a few writes held back before a card. It has four places; a place holds a block number and a content. A shelf
+-- never has two places of one block, but the definitions do not lean on that: where there were two, the later one counts.
 use mathlib.Core.Path.{_≡_}
 use mathlib.Core.Bool.{Bool, true, false, cond}
 use mathlib.Core.List.{List, [], _∷_, _++_}
@@ -14,7 +15,7 @@ use Rattle.cards.specs.Meanings.{Content, Meaning}
 abbrev pub Held : Type 0
 Held = ℕ × Content
 
--- x, with what the places hold of block b put upon it by f, in place order
+-- x, with the contents that the places hold of block b added by f, one after another in place order
 abbrev pub overlaid : {A : Type 0} → (Content → A → A) → List Held → ℕ → A → A
 overlaid f [] b x = x
 overlaid f (h ∷ hs) b x = overlaid f hs b (cond (eqb (h .0) b) (f (h .1) x) x)
@@ -28,12 +29,13 @@ shelved m hs = record {
   doubt = λ b. overlaid _∷_ hs b (m .doubt b);
 }
 
--- the place of block b, the last if there are several; one behind the head of a list if there is one, else the head
+-- the place of block b in a list, given whether the head holds b and where b is in the rest
 abbrev pub place-from : Bool → Option ℕ → Option ℕ
 place-from t (Some i) = Some (suc i)
 place-from true None = Some 0
 place-from false None = None
 
+-- the place of block b, the last if there are several
 abbrev pub place-of : List Held → ℕ → Option ℕ
 place-of [] b = None
 place-of (h ∷ hs) b = place-from (eqb (h .0) b) (place-of hs b)

@@ -1,5 +1,5 @@
--- Each make of card means something sound. These are proofs and define nothing; they stand here because the interface's
--- implementations cite them.
+-- Each make of card means something sound. These are proofs and define nothing; they stand here because the
+-- implementations of the interface cite them, each as its ghost member `sound`.
 use mathlib.Core.Path.{_≡_, refl, ap, _∙_}
 use mathlib.Core.Logic.{inl, ⊎-elim}
 use mathlib.Core.Bool.{true, false, cond}
@@ -24,14 +24,14 @@ length-block xs p within = simp (length-take, length-drop) (omega arith)
 pub plain-sound : (xs : List ℕ) → Sound (plain xs)
 plain-sound xs = record {
   few = omega arith;
-  held = λ b lt. inl refl;
+  in-doubt = λ b lt. inl refl;
   whole = λ b x lt. ⊎-elim (λ is. ap length is ∙ length-block xs b (omega arith)) (λ none. absurd none);
 }
 
 pub write-back-sound : (xs : List ℕ) → Sound (write-back xs)
 write-back-sound xs = record {
   few = omega arith;
-  held = λ b lt. inl refl;
+  in-doubt = λ b lt. inl refl;
   whole = λ b x lt.
       ⊎-elim (λ is. ap length is ∙ length-block xs (pairs xs + b) (omega arith))
       (⊎-elim (λ is. ap length is ∙ length-block xs b (omega arith)) (λ none. absurd none));
@@ -65,6 +65,6 @@ shelf-sound meaning sound s =
     let ps = take (s .used) (s .places) in
     record {
       few = ok .few;
-      held = λ b lt. overlaid-held ps b (m .present b) (m .doubt b) (ok .held b lt);
+      in-doubt = λ b lt. overlaid-held ps b (m .present b) (m .doubt b) (ok .in-doubt b lt);
       whole = λ b x lt. overlaid-whole ps b (m .doubt b) (λ y. ok .whole b y lt) x;
     }

@@ -10,13 +10,13 @@ use crate::fault::Fault;
 use crate::fault::Layer;
 
 // Whether a card of so many blocks takes a buffer of this length at block b.
-pub(crate) fn admit(blocks: usize, b: usize, length: usize) -> Result<(), Fault>
-    ensures { λ r. ⌜ r ≡ answer blocks b length ⌝ }
+pub(crate) fn admit(blocks: usize, b: usize, len: usize) -> Result<(), Fault>
+    ensures { λ r. ⌜ r ≡ answer blocks b len ⌝ }
 {
-    if length != BLOCK_SIZE {
+    if len != BLOCK_SIZE {
         return Err(Fault::BufferLength {
             layer: Layer::Card,
-            length,
+            length: len,
         });
     }
     if b >= blocks {
@@ -26,11 +26,11 @@ pub(crate) fn admit(blocks: usize, b: usize, length: usize) -> Result<(), Fault>
 }
 
 // How many blocks a card shows of memory of this length, at so many bytes for each block.
-pub(crate) fn count(length: usize, each: usize) -> usize
+pub(crate) fn count(len: usize, each: usize) -> usize
     requires { ⌜ 0 < each ⌝ }
-    ensures { λ r. ⌜ r ≡ shown-blocks length each ⌝ }
+    ensures { λ r. ⌜ r ≡ shown-blocks len each ⌝ }
 {
-    (length / each).min(MOST_BLOCKS)
+    (len / each).min(MOST_BLOCKS)
 }
 
 // Reads the block at place p.

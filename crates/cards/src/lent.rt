@@ -1,5 +1,5 @@
-// A card that is lent is a card too, so that a shelf can stand before a card that its owner keeps. Whoever lent the card
-// can then tell what it means when it comes back.
+// A card that is lent is a card too, so that a shelf can stand before a card that its owner keeps. The owner can then tell
+// what became of the card. Of a card that a shelf owns, whoever lent its bytes can prove nothing in the end.
 ghost use mathlib.Core.List.{_∷_};
 ghost use denote.Ref.{now, name};
 use crate::card::Card;

@@ -5,7 +5,7 @@ ghost use Prim.Native.Nat.{_+_, _*_};
 ghost use denote.Ref.{now};
 ghost use lib.ListN.{length};
 ghost use Rattle.cards.specs.Answers.{answer, Written};
-ghost use Rattle.cards.specs.Lenders.{lent};
+ghost use Rattle.cards.specs.Lenders.{loan};
 ghost use Rattle.cards.specs.Meanings.{Flushed, Lost};
 ghost use Rattle.cards.specs.SoundCards.{write-back-sound};
 ghost use Rattle.cards.specs.WriteBackCards.{write-back, back-write, pairs, fresh, fresh-stays, after-loss, Settled};
@@ -55,7 +55,7 @@ impl<'a> WriteBackCard<'a> {
     // A card over the lent bytes.
     pub fn new(bytes: &'a mut [u8]) -> WriteBackCard<'a>
         ensures exact { λ r. ⌜ now (r .bytes) ≡ now (bytes .entry) ⌝ }
-        ensures lender { λ r. ⌜ lent (r .bytes) ≡ lent (bytes .entry) ⌝ }
+        ensures lender { λ r. ⌜ loan (r .bytes) ≡ loan (bytes .entry) ⌝ }
     {
         WriteBackCard { bytes }
     }
@@ -66,7 +66,7 @@ pub impl Card for WriteBackCard<'_> as WriteBackCardCard {
 
     ghost sound = { λ c. write-back-sound (now (c .bytes)) };
 
-    ghost lenders = { λ c. lent (c .bytes) };
+    ghost lenders = { λ c. loan (c .bytes) };
 
     ghost writes = { λ c b x d. now (d .bytes) ≡ back-write (now (c .bytes)) b x };
 
@@ -88,7 +88,7 @@ pub impl Card for WriteBackCard<'_> as WriteBackCardCard {
     fn write(&mut self, b: usize, bytes: &[u8]) -> Result<(), Fault>
         ensures value { λ r. ⌜ r ≡ answer (pairs (now (now (self .entry) .bytes))) b (length (now (bytes .entry))) ⌝ }
         ensures card { λ r. ⌜ Written r (write-back (now (now (self .entry) .bytes))) b (now (bytes .entry)) (write-back (now (now (self .exit) .bytes))) ⌝ }
-        ensures lender { λ _. ⌜ lent (now (self .exit) .bytes) ≡ lent (now (self .entry) .bytes) ⌝ }
+        ensures lender { λ _. ⌜ loan (now (self .exit) .bytes) ≡ loan (now (self .entry) .bytes) ⌝ }
         ensures exact { λ _. ⌜ now (now (self .exit) .bytes) ≡ back-write (now (now (self .entry) .bytes)) b (now (bytes .entry)) ⌝ }
     {
         let n = count(self.bytes.len(), PAIR_SIZE);
@@ -99,7 +99,7 @@ pub impl Card for WriteBackCard<'_> as WriteBackCardCard {
 
     fn barrier(&mut self)
         ensures card { λ _. ⌜ Flushed (write-back (now (now (self .entry) .bytes))) (write-back (now (now (self .exit) .bytes))) ⌝ }
-        ensures lender { λ _. ⌜ lent (now (self .exit) .bytes) ≡ lent (now (self .entry) .bytes) ⌝ }
+        ensures lender { λ _. ⌜ loan (now (self .exit) .bytes) ≡ loan (now (self .entry) .bytes) ⌝ }
         ensures exact { λ _. ⌜ Settled (fresh (now (now (self .entry) .bytes))) (now (now (self .entry) .bytes)) (now (now (self .exit) .bytes)) ⌝ }
     {
         settle(self.bytes, ALL_FRESH);
@@ -107,7 +107,7 @@ pub impl Card for WriteBackCard<'_> as WriteBackCardCard {
 
     fn lose_power(&mut self, pattern: u64)
         ensures card { λ _. ⌜ Lost (write-back (now (now (self .entry) .bytes))) (write-back (now (now (self .exit) .bytes))) ⌝ }
-        ensures lender { λ _. ⌜ lent (now (self .exit) .bytes) ≡ lent (now (self .entry) .bytes) ⌝ }
+        ensures lender { λ _. ⌜ loan (now (self .exit) .bytes) ≡ loan (now (self .entry) .bytes) ⌝ }
         ensures exact { λ _. ⌜ Settled (after-loss pattern (now (now (self .entry) .bytes))) (now (now (self .entry) .bytes)) (now (now (self .exit) .bytes)) ⌝ }
     {
         settle(self.bytes, pattern);

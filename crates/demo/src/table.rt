@@ -1,10 +1,12 @@
 // One line of text a block: its bytes, and zeros after them. Proved once for every card.
 ghost use mathlib.Core.List.{_++_};
 ghost use mathlib.Core.Path.{_≡_};
-ghost use Prim.Native.Nat.{ℕ, _<_, _≤_, min};
-ghost use lib.ListN.{length, getD, take, drop};
+ghost use Prim.Native.Nat.{ℕ, min};
+ghost use lib.ListN.{length, take, drop};
+ghost use Rattle.std.specs.Text.{Utf8};
 ghost use Rattle.cards.specs.Answers.{answer, Written};
 ghost use Rattle.cards.specs.Blocks.{content};
+ghost use Rattle.demo.specs.Lines.{Ends};
 use cards::card::BLOCK_SIZE;
 use cards::card::Card;
 use cards::fault::Fault;
@@ -37,9 +39,7 @@ pub fn save<C: Card>(card: &mut C, b: usize, text: &str) -> Result<(), Fault>
 
 // How many bytes come before the first zero.
 fn text_length(block: &[u8]) -> usize
-    ensures within { λ r. ⌜ r ≤ length (now (block .entry)) ⌝ }
-    ensures before { λ r. ⌜ ((k : ℕ) → k < r → getD (now (block .entry)) k 0 ≡ 0 → ⊥) ⌝ }
-    ensures end { λ r. ⌜ (r < length (now (block .entry)) → getD (now (block .entry)) r 0 ≡ 0) ⌝ }
+    ensures { λ r. ⌜ Ends (now (block .entry)) r ⌝ }
 {
     for (i, byte) in block.iter().enumerate() {
         if *byte == 0 {
@@ -49,8 +49,13 @@ fn text_length(block: &[u8]) -> usize
     block.len()
 }
 
-// The text of a block.
-pub fn text_of(block: &[u8]) -> &str {
+// The line of text in a block, if it is text.
+pub fn text_of(block: &[u8]) -> &str
+    ensures { λ r. ⌜ ((n : ℕ) × Ends (now (block .entry)) n × (Utf8 (take n (now (block .entry))) → now r ≡ take n (now (block .entry)))) ⌝ }
+{
     let n = text_length(block);
-    std::str::from_utf8(&block[0..n]).unwrap_or("no text")
+    match std::str::from_utf8(&block[0..n]) {
+        Ok(text) => text,
+        Err(_) => "no text",
+    }
 }
