@@ -1,6 +1,14 @@
 // A small tournament table on a card that loses power. The table is saved line by line, a block for each line, to a
 // write-back card behind a shelf. Round 1 is made durable by a barrier. Round 2 is saved without one, and power is lost.
 // What each block then holds is shown.
+ghost use mathlib.Core.Bool.{true};
+ghost use mathlib.Core.Path.{_≡_};
+ghost use Rattle.std.specs.Results.{isOk};
+ghost use Rattle.cards.specs.Answers.{answer, Written};
+ghost use Rattle.cards.specs.Blocks.{content};
+ghost use Rattle.cards.specs.Shelves.{meant-write, WroteEach};
+ghost use Rattle.demo.specs.Standings.{text-of, writes-from};
+
 mod standing;
 mod table;
 
@@ -94,7 +102,9 @@ const LATE_ENTRY: Standing = Standing {
 const PATTERN: u64 = 0x35;
 
 // Saves a line to block b, and says what came of it.
-fn save_line<C: Card>(rt: &LibcRuntime, card: &mut C, b: usize, line: &Standing) -> io::Result<()> {
+fn save_line<C: Card>(rt: &LibcRuntime, card: &mut C, b: usize, line: &Standing) -> io::Result<()>
+    ensures { λ r. ⌜ (isOk r ≡ true → Written (answer (C·Card .meaning (now (card .entry)) .size) b 512) (C·Card .meaning (now (card .entry))) b (content (text-of (now (line .entry)))) (C·Card .meaning (now (card .exit)))) ⌝ }
+{
     let text = line.to_string(rt.alloc())?;
     match save(card, b, text.as_str()) {
         Ok(()) => println!(rt, "saved block {b}: {text}"),
@@ -103,7 +113,9 @@ fn save_line<C: Card>(rt: &LibcRuntime, card: &mut C, b: usize, line: &Standing)
 }
 
 // Saves the lines of a round to blocks 0, 1 and on.
-fn save_round<C: Card>(rt: &LibcRuntime, card: &mut C, round: &[Standing]) -> io::Result<()> {
+fn save_round<C: Card>(rt: &LibcRuntime, card: &mut C, round: &[Standing]) -> io::Result<()>
+    ensures { λ r. ⌜ (isOk r ≡ true → WroteEach meant-write (writes-from 0 (now (round .entry))) (C·Card .meaning (now (card .entry))) (C·Card .meaning (now (card .exit)))) ⌝ }
+{
     for (b, line) in round.iter().enumerate() {
         save_line(rt, card, b, line)?;
     }
