@@ -12,11 +12,11 @@ use Rattle.std.specs.declared.result.Result.{Result}
 use Rattle.std.specs.declared.result.Result.the-variants.{Ok, Err}
 use Rattle.cards.specs.declared.fault.Fault.{Fault}
 use Rattle.cards.specs.declared.shelf.Shelf.{Shelf}
-use Rattle.cards.specs.Answers.{answer}
+use Rattle.cards.specs.Answers.{answer, WroteEach}
 use Rattle.cards.specs.Meanings.{Content, Meaning, In, Wrote, Flushed}
 use Rattle.cards.specs.OnShelf.{on-shelf, ShelfWrites, ShelfFlushes}
 use Rattle.cards.specs.WriteBackCards.{fresh, back-write, Settled}
-use Rattle.cards.specs.Shelves.{Held, shelved, stored, written-below, WroteEach}
+use Rattle.cards.specs.Shelves.{Held, shelved, stored, written-below}
 
 -- ---- one write and one barrier reach the card
 module _ {C : Type 0} (meaning : C → Meaning) (writes : C → ℕ → Content → C → Type 0) (flushes : C → C → Type 0) (s t u : Shelf C) (b : ℕ) (x : Content)

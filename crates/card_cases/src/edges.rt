@@ -7,6 +7,7 @@ use cards::fault::FaultDebug;
 use cards::fault::FaultDisplay;
 use cards::fault::FaultPartialEq;
 use cards::fault::Layer;
+use cards::lent::LentCard;
 use cards::plain::PlainCard;
 use cards::plain::PlainCardCard;
 use cards::shelf::Shelf;
@@ -143,6 +144,21 @@ fn shelf_on_shelf() -> Result<(), Fail> {
     check_eq(first(&shelf, 1), Ok(0))
 }
 
+// A shelf before a lent card: what it has not written below is gone with it, and the card stays.
+#[test]
+fn shelf_before_a_lent_card() -> Result<(), Fail> {
+    let mut bytes = [0u8; 2 * 1024];
+    let mut card = WriteBackCard::new(&mut bytes);
+    {
+        let mut shelf = Shelf::new(&mut card);
+        fill(&mut shelf, 0, 1)?;
+        shelf.barrier();
+        fill(&mut shelf, 1, 1)?;
+    }
+    check_eq(first(&card, 0), Ok(1))?;
+    check_eq(first(&card, 1), Ok(0))
+}
+
 #[test]
 fn refusals_as_text(rt: LibcRuntime) -> Result<(), Fail> {
     let heap = rt.alloc();
@@ -157,7 +173,7 @@ fn refusals_as_text(rt: LibcRuntime) -> Result<(), Fail> {
         ),
         (Fault::Full, "refused 11 3 0 0"),
         (
-            Fault::Size {
+            Fault::VolumeSize {
                 layer: Layer::Table,
                 extent: Extent::Physical,
             },

@@ -15,14 +15,14 @@ use Rattle.std.specs.declared.option.Option.the-variants.{Some, None}
 use Rattle.std.specs.declared.result.Result.{Result}
 use Rattle.std.specs.declared.result.Result.the-variants.{Ok, Err}
 use Rattle.cards.specs.declared.fault.Fault.{Fault}
-use Rattle.cards.specs.Answers.{answer, Written}
+use Rattle.cards.specs.Answers.{answer, Written, meant-write, WroteEach}
 use Rattle.cards.specs.Meanings.{Content, Meaning, In, Wrote, Flushed, Lost}
 use Rattle.cards.specs.OnShelf.{held, held-of, on-shelf, ShelfWrites}
 use Rattle.cards.specs.SoundCards.{length-content}
 use Rattle.cards.specs.declared.place.Place.{Place}
 use Rattle.cards.specs.declared.shelf.Shelf.{Shelf}
 use Rattle.cards.proofs.Admitted.{refused-past}
-use Rattle.cards.specs.Shelves.{Held, overlaid, shelved, place-from, place-of, goes, stored-at, stored, written-below-at, written-below, meant-write, WroteEach}
+use Rattle.cards.specs.Shelves.{Held, overlaid, shelved, place-from, place-of, goes, stored-at, stored, written-below-at, written-below}
 
 -- ---- writes to the card below
 pub wrote-push : {S : Type 0} (writes : S → ℕ → Content → S → Type 0) (hs : List Held) (c d e : S) (h : Held) → WroteEach writes hs c d → writes d (h .0) (h .1) e → WroteEach writes (hs ++ h ∷ []) c e

@@ -1,8 +1,10 @@
--- What a card answers to a read or a write, and what an answered write leaves.
+-- What a card answers to a read or a write, and what writes leave.
 use mathlib.Core.Path.{_≡_}
 use mathlib.Core.Bool.{cond}
+use mathlib.Core.List.{List, [], _∷_}
 use Prim.Native.Nat.{ℕ}
 use lib.Dec.{eqb, ltb}
+use lib.ListN.{length}
 use Rattle.std.specs.Orderings.{When}
 use Rattle.std.specs.Results.{isOk}
 use Rattle.std.specs.declared.result.Result.{Result}
@@ -19,3 +21,12 @@ answer size b n = cond (eqb n 512) (cond (ltb b size) (Ok tt) (Err (CardBlock b)
 -- a write of c to block b that was answered by r turned m into n; where it was refused nothing changed
 abbrev pub Written : Result (Unit {0}) Fault → Meaning → ℕ → Content → Meaning → Type 0
 Written r m b c n = When (isOk r) (Wrote m b c n) (n ≡ m)
+
+-- a write, by what a card means before and after it
+abbrev pub meant-write : Meaning → ℕ → Content → Meaning → Type 0
+meant-write m b c n = Written (answer (m .size) b (length c)) m b c n
+
+-- a card went from c to d by one write for each block number and content of the list, in order, and by nothing else
+abbrev pub WroteEach : {S : Type 0} → (S → ℕ → Content → S → Type 0) → List (ℕ × Content) → S → S → Type 0
+WroteEach {S} writes [] c d = d ≡ c
+WroteEach {S} writes (h ∷ hs) c d = (k : S) × writes c (h .0) (h .1) k × WroteEach writes hs k d

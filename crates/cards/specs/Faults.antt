@@ -8,7 +8,7 @@ use Rattle.cards.specs.declared.fault.Layer.the-variants.{Card, Table, Volume}
 use Rattle.cards.specs.declared.fault.Extent.{Extent}
 use Rattle.cards.specs.declared.fault.Extent.the-variants.{Logical, Physical}
 use Rattle.cards.specs.declared.fault.Fault.{Fault}
-use Rattle.cards.specs.declared.fault.Fault.the-variants.{BufferLength, CardBlock, LogicalBlock, TableBlock, Size, CardTooSmall, Version, RuleNumber, BadWord, LowCount, Full}
+use Rattle.cards.specs.declared.fault.Fault.the-variants.{BufferLength, CardBlock, LogicalBlock, TableBlock, VolumeSize, CardTooSmall, Version, RuleNumber, BadWord, LowCount, Full}
 
 abbrev pub layer-number : Layer → ℕ
 layer-number Card = 1
@@ -25,7 +25,7 @@ number-of (BufferLength layer n) = 1
 number-of (CardBlock block) = 2
 number-of (LogicalBlock block) = 3
 number-of (TableBlock block) = 4
-number-of (Size layer extent) = 5
+number-of (VolumeSize layer extent) = 5
 number-of (CardTooSmall needed) = 6
 number-of Version = 7
 number-of RuleNumber = 8
@@ -38,7 +38,7 @@ layer-of (BufferLength layer n) = layer
 layer-of (CardBlock block) = Card
 layer-of (LogicalBlock block) = Volume
 layer-of (TableBlock block) = Volume
-layer-of (Size layer extent) = layer
+layer-of (VolumeSize layer extent) = layer
 layer-of (CardTooSmall needed) = Volume
 layer-of Version = Table
 layer-of RuleNumber = Table
@@ -51,7 +51,7 @@ places-of (BufferLength layer n) = (n, 0)
 places-of (CardBlock block) = (block, 0)
 places-of (LogicalBlock block) = (block, 0)
 places-of (TableBlock block) = (block, 0)
-places-of (Size layer extent) = (0, extent-word extent)
+places-of (VolumeSize layer extent) = (0, extent-word extent)
 places-of (CardTooSmall needed) = (needed, 0)
 places-of Version = (0, 0)
 places-of RuleNumber = (0, 3)

@@ -5,10 +5,10 @@ use mathlib.Core.Path.{_≡_}
 use Prim.Native.Nat.{ℕ}
 use lib.ListN.{length, take}
 use Rattle.std.specs.Results.{isOk}
-use Rattle.cards.specs.Answers.{answer}
+use Rattle.cards.specs.Answers.{answer, WroteEach}
 use Rattle.cards.specs.Blocks.{content}
 use Rattle.cards.specs.Meanings.{Content, Meaning}
-use Rattle.cards.specs.Shelves.{Held, shelved, stored, written-below, WroteEach}
+use Rattle.cards.specs.Shelves.{Held, shelved, stored, written-below}
 use Rattle.cards.specs.declared.place.Place.{Place}
 use Rattle.cards.specs.declared.shelf.Shelf.{Shelf}
 

@@ -8,7 +8,6 @@ use lib.Dec.{eqb, ltb}
 use lib.ListN.{length, set}
 use Rattle.std.specs.declared.option.Option.{Option}
 use Rattle.std.specs.declared.option.Option.the-variants.{Some, None}
-use Rattle.cards.specs.Answers.{answer, Written}
 use Rattle.cards.specs.Meanings.{Content, Meaning}
 
 -- what a place in use holds
@@ -63,12 +62,3 @@ written-below-at None hs = goes hs
 
 abbrev pub written-below : List Held → ℕ → List Held
 written-below hs b = written-below-at (place-of hs b) hs
-
--- a card went from c to d by one write for each place, in place order, and by nothing else
-abbrev pub WroteEach : {S : Type 0} → (S → ℕ → Content → S → Type 0) → List Held → S → S → Type 0
-WroteEach {S} writes [] c d = d ≡ c
-WroteEach {S} writes (h ∷ hs) c d = (k : S) × writes c (h .0) (h .1) k × WroteEach writes hs k d
-
--- a write, by what a card means before and after it
-abbrev pub meant-write : Meaning → ℕ → Content → Meaning → Type 0
-meant-write m b c n = Written (answer (m .size) b (length c)) m b c n

@@ -31,7 +31,7 @@ pub enum Fault {
     // The volume has no such table block to send.
     TableBlock { block: usize },
     // A size of a volume is not 1 to 2,048. A format refuses as the volume, an opening as the table.
-    Size { layer: Layer, extent: Extent },
+    VolumeSize { layer: Layer, extent: Extent },
     // The volume needs so many blocks, and the card has fewer.
     CardTooSmall { needed: usize },
     // The header's word 0 is not the version 1.
@@ -81,7 +81,7 @@ impl Fault {
             Fault::CardBlock { .. } => 2,
             Fault::LogicalBlock { .. } => 3,
             Fault::TableBlock { .. } => 4,
-            Fault::Size { .. } => 5,
+            Fault::VolumeSize { .. } => 5,
             Fault::CardTooSmall { .. } => 6,
             Fault::Version => 7,
             Fault::RuleNumber => 8,
@@ -96,7 +96,7 @@ impl Fault {
         ensures { λ r. ⌜ r ≡ layer-of (now (self .entry)) ⌝ }
     {
         match self {
-            Fault::BufferLength { layer, .. } | Fault::Size { layer, .. } => *layer,
+            Fault::BufferLength { layer, .. } | Fault::VolumeSize { layer, .. } => *layer,
             Fault::CardBlock { .. } => Layer::Card,
             Fault::Version | Fault::RuleNumber | Fault::BadWord { .. } => Layer::Table,
             Fault::LogicalBlock { .. }
@@ -117,7 +117,7 @@ impl Fault {
             | Fault::LogicalBlock { block }
             | Fault::TableBlock { block }
             | Fault::LowCount { block } => (*block, 0),
-            Fault::Size { extent, .. } => (0, extent.word()),
+            Fault::VolumeSize { extent, .. } => (0, extent.word()),
             Fault::CardTooSmall { needed } => (*needed, 0),
             Fault::Version => (0, 0),
             Fault::RuleNumber => (0, 3),

@@ -4,9 +4,8 @@
 ghost use mathlib.Core.Bool.{true};
 ghost use mathlib.Core.Path.{_≡_};
 ghost use Rattle.std.specs.Results.{isOk};
-ghost use Rattle.cards.specs.Answers.{answer, Written};
+ghost use Rattle.cards.specs.Answers.{answer, Written, meant-write, WroteEach};
 ghost use Rattle.cards.specs.Blocks.{content};
-ghost use Rattle.cards.specs.Shelves.{meant-write, WroteEach};
 ghost use Rattle.demo.specs.Standings.{text-of, writes-from};
 
 mod standing;

@@ -1,6 +1,6 @@
 use mathlib.Core.Path.{refl, subst}
 use Rattle.std.proofs.shelf.Lists.{take-all}
-use Rattle.cards.specs.Shelves.{meant-write, WroteEach}
+use Rattle.cards.specs.Answers.{meant-write, WroteEach}
 use Rattle.demo.specs.Standings.{writes-from}
 use Rattle.demo.proofs.Rounds.{round-more}
 use Rattle.demo.proofs.save_round.Needs as need

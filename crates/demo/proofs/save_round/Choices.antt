@@ -1,5 +1,5 @@
 use lib.ListN.{take}
-use Rattle.cards.specs.Shelves.{meant-write, WroteEach}
+use Rattle.cards.specs.Answers.{meant-write, WroteEach}
 use Rattle.demo.specs.Standings.{writes-from}
 use Rattle.demo.proofs.save_round.Given as given
 

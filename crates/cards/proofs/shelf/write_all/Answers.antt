@@ -2,9 +2,8 @@ use borrow.Author.Needs.{needs}
 use mathlib.Core.Path.{_≡_, refl, sym, subst, _∙_}
 use lib.ListN.{length, getD, take}
 use Rattle.std.proofs.shelf.Lists.{take-all}
-use Rattle.cards.specs.Answers.{Written}
+use Rattle.cards.specs.Answers.{Written, meant-write, WroteEach}
 use Rattle.cards.specs.OnShelf.{held, held-of}
-use Rattle.cards.specs.Shelves.{meant-write, WroteEach}
 use Rattle.cards.proofs.BlockLaws.{content-is}
 use Rattle.cards.proofs.ShelfLaws.{wrote-push}
 use Rattle.cards.proofs.ShelfPlaces.{no-place, held-more}

@@ -1,7 +1,7 @@
 use mathlib.Core.Path.{_≡_}
 use lib.ListN.{take}
+use Rattle.cards.specs.Answers.{meant-write, WroteEach}
 use Rattle.cards.specs.OnShelf.{held-of}
-use Rattle.cards.specs.Shelves.{meant-write, WroteEach}
 use Rattle.cards.proofs.shelf.write_all.Given as given
 
 abbrev pub Inv-loop-place : given.InvT-loop-place

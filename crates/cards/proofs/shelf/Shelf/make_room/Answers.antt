@@ -4,8 +4,8 @@ use mathlib.Core.Bool.{cond}
 use mathlib.Core.List.{[]}
 use Prim.Native.Nat.{_<_}
 use lib.ListN.{length, take}
+use Rattle.cards.specs.Answers.{meant-write, WroteEach}
 use Rattle.cards.specs.OnShelf.{held-of, on-shelf}
-use Rattle.cards.specs.Shelves.{meant-write, WroteEach}
 use Rattle.cards.proofs.ShelfPlaces.{full, roomy}
 use Rattle.cards.proofs.shelf.Shelf.make_room.Needs as need
 

@@ -5,9 +5,9 @@ use native.Mathlib.Omega.{arith}
 use lib.ListN.{length, take}
 use Rattle.std.specs.declared.option.Option.the-variants.{Some, None}
 use Rattle.std.specs.declared.result.Result.the-variants.{Ok}
-use Rattle.cards.specs.Answers.{answer}
+use Rattle.cards.specs.Answers.{answer, meant-write}
 use Rattle.cards.specs.OnShelf.{held-of, on-shelf}
-use Rattle.cards.specs.Shelves.{place-of, meant-write}
+use Rattle.cards.specs.Shelves.{place-of}
 use Rattle.cards.proofs.Admitted.{admitted}
 use Rattle.cards.proofs.ShelfLaws.{shelf-wrote, shelf-writes, written-below-none, written-below-room}
 use Rattle.cards.proofs.ShelfPlaces.{held-replaced, held-added, found-below}
