@@ -15,6 +15,7 @@ use Rattle.cards.specs.declared.shelf.Shelf.{Shelf}
 use Rattle.cards.specs.Answers.{answer, WroteEach}
 use Rattle.cards.specs.Meanings.{Content, Meaning, In, Wrote, Flushed}
 use Rattle.cards.specs.OnShelf.{on-shelf, ShelfWrites, ShelfFlushes}
+use Rattle.card_cases.specs.SavedBytes.{SavedBytes}
 use Rattle.cards.specs.WriteBackCards.{fresh, back-write, Settled}
 use Rattle.cards.specs.Shelves.{Held, shelved, stored, written-below}
 
@@ -60,7 +61,7 @@ saved m n o hs ks b c empty bare e w f =
 module _ {K : Type 0} (bytes-of : K → List ℕ) (xs zs : List ℕ) (c d : K) (b : ℕ) (x : Content) (before : bytes-of c ≡ xs) (after : zs ≡ bytes-of d) where
   pub bytes-saved : (r : Result (Unit {0}) Fault)
       → When (isOk r) ((k : K) × (bytes-of k ≡ back-write (bytes-of c) b x) × Settled (fresh (bytes-of k)) (bytes-of k) (bytes-of d)) (d ≡ c)
-      → When (isOk r) (Settled (fresh (back-write xs b x)) (back-write xs b x) zs) (zs ≡ xs)
+      → SavedBytes r xs b x zs
   bytes-saved (Ok u) went =
       let is = went .1 ∙ ap (λ ys. back-write ys b x) before in
       subst (λ ys. Settled (fresh ys) ys zs) is (subst (λ ys. Settled (fresh (bytes-of (went .0))) (bytes-of (went .0)) ys) (sym after) (went .2))

@@ -11,7 +11,8 @@ ghost use Rattle.std.specs.Results.{isOk};
 ghost use Rattle.cards.specs.Answers.{answer};
 ghost use Rattle.cards.specs.Meanings.{In};
 ghost use Rattle.cards.specs.PlainCards.{plain, plain-write};
-ghost use Rattle.cards.specs.WriteBackCards.{pairs, fresh, back-write, Settled};
+ghost use Rattle.cards.specs.WriteBackCards.{pairs};
+ghost use Rattle.card_cases.specs.SavedBytes.{SavedBytes};
 use cards::card::Card;
 use cards::fault::Fault;
 use cards::lent::LentCard;
@@ -36,7 +37,7 @@ pub fn save_plain(bytes: &mut [u8], b: usize, block: &[u8]) -> Result<(), Fault>
 // On a write-back card both copies of every block are then its fresh copy, and that of block b is the block.
 pub fn save_write_back(bytes: &mut [u8], b: usize, block: &[u8]) -> Result<(), Fault>
     ensures value { λ r. ⌜ r ≡ answer (pairs (now (bytes .entry))) b (length (now (block .entry))) ⌝ }
-    ensures bytes { λ r. ⌜ When (isOk r) (Settled (fresh (back-write (now (bytes .entry)) b (now (block .entry)))) (back-write (now (bytes .entry)) b (now (block .entry))) (now (bytes .exit))) (now (bytes .exit) ≡ now (bytes .entry)) ⌝ }
+    ensures bytes { λ r. ⌜ SavedBytes r (now (bytes .entry)) b (now (block .entry)) (now (bytes .exit)) ⌝ }
 {
     let mut card = WriteBackCard::new(bytes);
     card.write(b, block)?;
@@ -62,7 +63,7 @@ pub fn save_through_shelf<C: Card>(card: &mut C, b: usize, block: &[u8]) -> Resu
 // So the bytes of a write-back card behind a shelf hold what they hold without the shelf.
 pub fn save_write_back_through_shelf(bytes: &mut [u8], b: usize, block: &[u8]) -> Result<(), Fault>
     ensures value { λ r. ⌜ r ≡ answer (pairs (now (bytes .entry))) b (length (now (block .entry))) ⌝ }
-    ensures bytes { λ r. ⌜ When (isOk r) (Settled (fresh (back-write (now (bytes .entry)) b (now (block .entry)))) (back-write (now (bytes .entry)) b (now (block .entry))) (now (bytes .exit))) (now (bytes .exit) ≡ now (bytes .entry)) ⌝ }
+    ensures bytes { λ r. ⌜ SavedBytes r (now (bytes .entry)) b (now (block .entry)) (now (bytes .exit)) ⌝ }
 {
     let mut card = WriteBackCard::new(bytes);
     save_through_shelf(&mut card, b, block)

@@ -1,7 +1,6 @@
 // A card over lent bytes whose writes wait. Each block has two copies: a write changes the fresh one, a barrier makes
 // the kept one equal to it, and a loss of power leaves one of the two.
 ghost use mathlib.Core.Path.{_≡_};
-ghost use Prim.Native.Nat.{_+_, _*_};
 ghost use denote.Ref.{now};
 ghost use lib.ListN.{length};
 ghost use Rattle.cards.specs.Answers.{answer, Written};
