@@ -24,11 +24,6 @@ use Rattle.cards.specs.declared.shelf.Shelf.{Shelf}
 use Rattle.cards.proofs.Admitted.{refused-past}
 use Rattle.cards.specs.Shelves.{Held, overlaid, shelved, place-from, place-of, goes, stored-at, stored, written-below-at, written-below}
 
--- ---- writes to the card below
-pub wrote-push : {S : Type 0} (writes : S → ℕ → Content → S → Type 0) (hs : List Held) (c d e : S) (h : Held) → WroteEach writes hs c d → writes d (h .0) (h .1) e → WroteEach writes (hs ++ h ∷ []) c e
-wrote-push writes [] c d e h is w = (e, subst (λ d. writes d (h .0) (h .1) e) is w, refl)
-wrote-push writes (g ∷ hs) c d e h v w = (v .0, v .1, wrote-push writes hs (v .0) d e h (v .2) w)
-
 -- ---- where a block's place is
 not-some : {i : ℕ} → None ≡ Some i → ⊥
 not-some {i} e = false≢true (ap isSome e)

@@ -9,7 +9,7 @@ use Rattle.cards.specs.Blocks.{content}
 use Rattle.cards.specs.Meanings.{Meaning}
 use Rattle.cards.specs.SoundCards.{length-content}
 use Rattle.cards.specs.Answers.{answer, Written, meant-write, WroteEach}
-use Rattle.cards.proofs.ShelfLaws.{wrote-push}
+use Rattle.cards.proofs.Sequences.{wrote-push}
 use Rattle.demo.specs.declared.standing.Standing.{Standing}
 use Rattle.demo.specs.Standings.{text-of, writes-from}
 

@@ -5,7 +5,7 @@ use Rattle.std.proofs.shelf.Lists.{take-all}
 use Rattle.cards.specs.Answers.{Written, meant-write, WroteEach}
 use Rattle.cards.specs.OnShelf.{held, held-of}
 use Rattle.cards.proofs.BlockLaws.{content-is}
-use Rattle.cards.proofs.ShelfLaws.{wrote-push}
+use Rattle.cards.proofs.Sequences.{wrote-push}
 use Rattle.cards.proofs.ShelfPlaces.{no-place, held-more}
 use Rattle.cards.proofs.shelf.write_all.Needs as need
 
