@@ -1,4 +1,6 @@
 // Cards: storage of a fixed number of 512-byte blocks that may lose power at any time.
+#![tactic(auto)]
+
 mod blocks;
 pub mod card;
 pub mod content;

@@ -1,6 +1,8 @@
 // A small tournament table on a card that loses power. The table is saved line by line, a block for each line, to a
 // write-back card behind a shelf. Round 1 is made durable by a barrier. Round 2 is saved without one, and power is lost.
 // What each block then holds is shown.
+#![tactic(auto)]
+
 ghost use Rattle.std.specs.Prelude.{◌≡◌, true, is_ok};
 ghost use Rattle.cards.specs.Answers.{answer, Written, MeantWrite, WroteEach};
 ghost use Rattle.cards.specs.Blocks.{content};

@@ -1,6 +1,8 @@
 // Fingerprints of lines of text. Each line of the input is a published hash, in hexadecimal, or a `-`, and a text. Printed
 // are the FNV-1a hash of the text, and the print words of the block that holds the text, under rule 1 and under rule 2; at
 // the end, how many of the published hashes were found.
+#![tactic(auto)]
+
 ghost use Rattle.std.specs.Prelude.{◌≡◌, Some};
 ghost use Rattle.cards.specs.Blocks.{content};
 ghost use Rattle.tables.specs.Entries.{print_of, print_word};

@@ -1,7 +1,7 @@
 // A table block that outlives a loss of power, on any card and for any kind of entry.
 ghost use Rattle.std.specs.Prelude.{◌≡◌, ◌<◌, ◌≤◌, map, length, is_ok, if◌then◌else◌, Ok};
 ghost use Rattle.std.specs.Result.{result_and};
-ghost use Rattle.std.specs.List.{AllByRecursion as All};
+ghost use Rattle.std.specs.List.{AllByRecursion};
 ghost use Rattle.cards.specs.Answers.{answer, SavedThenLost};
 ghost use Rattle.tables.specs.Tables.{block_of, unpack_answer, unpacked};
 
@@ -23,7 +23,7 @@ pub fn save_and_lose<C: Card, E: Entry + Copy>(
     ensures entries { out.new ≡ (if is_ok (answer (C.Card.meaning card.old).size block 512) then unpacked (E.Entry.reads physical) (block_of (map E.Entry.packed entries.now)) out.old else out.old) }
     ensures card { SavedThenLost C.Card.writes C.Card.flushes C.Card.loses (answer (C.Card.meaning card.old).size block 512) block (block_of (map E.Entry.packed entries.now)) pattern card.old card.new }
     ensures lender { C.Card.lenders card.new ≡ C.Card.lenders card.old }
-    ensures back { block < (C.Card.meaning card.old).size → length entries.now ≤ 128 → All (E.Entry.valid physical) entries.now → length out.old ≡ length entries.now → (result ≡ Ok tt) × (out.new ≡ entries.now) }
+    ensures back { block < (C.Card.meaning card.old).size → length entries.now ≤ 128 → AllByRecursion (E.Entry.valid physical) entries.now → length out.old ≡ length entries.now → (result ≡ Ok tt) × (out.new ≡ entries.now) }
 {
     save_entries(card, block, entries)?;
     card.barrier();

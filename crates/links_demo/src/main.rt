@@ -1,5 +1,7 @@
 // The links of a small volume on a card that loses power: they are packed to the first table block, made durable, and
 // unpacked again after a loss of power. Then the same block is tried as counts, and refused.
+#![tactic(auto)]
+
 mod entries;
 
 use cards::card::Card;

@@ -1,3 +1,5 @@
 // The tables at their edges, as tests.
+#![tactic(auto)]
+
 #[cfg(test)]
 mod edges;

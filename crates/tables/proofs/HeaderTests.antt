@@ -1,7 +1,7 @@
 -- The tests of a header on the words that were unpacked of it, and a packed header passing them.
 use Rattle.std.proofs.Common.{◌≡◌, ℕ, ◌^◌, ◌<◌, ◌≤◌, Bool, true, false, cond, eqb, List, [], ◌∷◌, ◌++◌, length, get_or, replicate, None, Ok, Err, Result, sym, refl, ap, ◌∙◌, subst, ap₂, arith, eq-eqb}
 use Rattle.std.proofs.lemmas.Bool.{ne_eqb, eqb-true}
-use Rattle.std.specs.List.{AllByRecursion as All}
+use Rattle.std.specs.List.{AllByRecursion}
 use Rattle.std.specs.Result.{result_and}
 use Rattle.cards.specs.declared.fault.Extent.TheVariants.{Logical, Physical}
 use Rattle.cards.specs.declared.fault.Fault.{Fault}
@@ -125,7 +125,7 @@ passing_words rule (a ∷ b ∷ c ∷ d ∷ ws) s l e =
     ((sizes.0, sizes.1), ap₂ ◌∷◌ one (ap (λ xs. b ∷ c ∷ xs) (ap₂ ◌∷◌ number rest)))
 
 -- A header that passes the tests is a packed one.
-pub passing_packed : (rule : ℕ) (bs : List ℕ) (s : Shape) → length bs ≡ 512 → All (λ b. b < 256) bs → header_read rule (words bs) ≡ Ok s → ValidShape s × (bs ≡ block_of (header_words s rule))
+pub passing_packed : (rule : ℕ) (bs : List ℕ) (s : Shape) → length bs ≡ 512 → AllByRecursion (λ b. b < 256) bs → header_read rule (words bs) ≡ Ok s → ValidShape s × (bs ≡ block_of (header_words s rule))
 passing_packed rule bs s whole small e =
     let p = passing_words rule (words bs) s (length-words 128 bs (omega arith)) e in
     (p.0, block_from_words (header_words s rule) bs whole (omega arith) small p.1)

@@ -3,7 +3,7 @@ use Rattle.std.proofs.Common.{◌≡◌, ℕ, zero, suc, ◌+◌, ◌-◌, ◌*�
 use Rattle.std.proofs.ByRecursion.{All-map, All-from_get_or}
 use Rattle.std.proofs.lemmas.List.{length-map}
 use Rattle.std.proofs.lemmas.Bool.{eqb-true}
-use Rattle.std.specs.List.{flat_map, AllByRecursion as All}
+use Rattle.std.specs.List.{flat_map, AllByRecursion}
 use Rattle.cards.specs.declared.fault.Fault.{Fault}
 use Rattle.cards.specs.declared.fault.Fault.TheVariants.{BadWord}
 use Rattle.tables.specs.Words.{bytes_of, words}
@@ -12,11 +12,11 @@ use Rattle.tables.proofs.Packing.{block_is, joined-append}
 use Rattle.tables.proofs.Unpacking.{good_before, good_after}
 use Rattle.tables.proofs.WordBytes.{words_joined, joined_words, words_below, length-words, words_zeros, joined-zeros}
 
-pub words_block : (ws : List ℕ) → length ws ≤ 128 → All (λ w. w < 2 ^ 32) ws → words (block_of ws) ≡ ws ++ replicate (128 - length ws) 0
+pub words_block : (ws : List ℕ) → length ws ≤ 128 → AllByRecursion (λ w. w < 2 ^ 32) ws → words (block_of ws) ≡ ws ++ replicate (128 - length ws) 0
 words_block ws few small =
     ap words (block_is ws few) ∙ words_joined ws _ small ∙ ap (λ xs. ws ++ xs) (words_zeros (128 - length ws) (512 - 4 * length ws) (omega arith))
 
-pub block_from_words : (ws bs : List ℕ) → length bs ≡ 512 → length ws ≤ 128 → All (λ b. b < 256) bs → words bs ≡ ws ++ replicate (128 - length ws) 0 → bs ≡ block_of ws
+pub block_from_words : (ws bs : List ℕ) → length bs ≡ 512 → length ws ≤ 128 → AllByRecursion (λ b. b < 256) bs → words bs ≡ ws ++ replicate (128 - length ws) 0 → bs ≡ block_of ws
 block_from_words ws bs l few h e =
     sym (joined_words 128 bs (omega arith) h) ∙ ap (flat_map bytes_of) e ∙ joined-append ws _
     ∙ ap (λ xs. flat_map bytes_of ws ++ xs) (joined-zeros (128 - length ws) (512 - 4 * length ws) (omega arith)) ∙ sym (block_is ws few)
@@ -32,7 +32,7 @@ module _ {E : Type 0} (packed : E → ℕ) (read : ℕ → Option E) where
   none_filled (w ∷ ws) = refl
 
   -- Packed entries, from number k on, unpack to themselves.
-  unpack_packed : (es old : List E) (m n k : ℕ) → n ≡ k + length es → length old ≡ length es → All (λ e. read (packed e) ≡ Some e) es
+  unpack_packed : (es old : List E) (m n k : ℕ) → n ≡ k + length es → length old ≡ length es → AllByRecursion (λ e. read (packed e) ≡ Some e) es
       → (first_bad read n k (map packed es ++ replicate m 0) ≡ None) × (entries_after read (map packed es ++ replicate m 0) old ≡ es)
   unpack_packed [] [] m n k e l h = (zero_tail m n k (omega arith), none_filled (replicate m 0))
   unpack_packed [] (o ∷ old) m n k e l h = absurd (omega arith)
@@ -45,7 +45,7 @@ module _ {E : Type 0} (packed : E → ℕ) (read : ℕ → Option E) where
         simp s (ap (λ xs. x ∷ xs) r.1),
       )
 
-  pub block_unpacks : (es : List E) (bs : List ℕ) → length es ≤ 128 → All (λ e. packed e < 2 ^ 32) es → All (λ e. read (packed e) ≡ Some e) es → bs ≡ block_of (map packed es) → UnpacksTo read es bs
+  pub block_unpacks : (es : List E) (bs : List ℕ) → length es ≤ 128 → AllByRecursion (λ e. packed e < 2 ^ 32) es → AllByRecursion (λ e. read (packed e) ≡ Some e) es → bs ≡ block_of (map packed es) → UnpacksTo read es bs
   block_unpacks es bs few small h e = λ old same.
       let n : length (map packed es) ≤ 128 = simp length-map few in
       let ws = ap words e ∙ words_block (map packed es) n (All-map (λ w. w < 2 ^ 32) packed es small) in
@@ -73,7 +73,7 @@ module _ {E : Type 0} (packed : E → ℕ) (read : ℕ → Option E) where
   module _ (valid : E → Type 0) (accepts : (w : ℕ) (e : E) → w < 2 ^ 32 → read w ≡ Some e → valid e) (packs : (w : ℕ) (e : E) → w < 2 ^ 32 → read w ≡ Some e → packed e ≡ w) where
     -- the words ws are those of valid entries es, and m zero words
     abbrev Packs : List ℕ → List E → ℕ → Type 0
-    Packs ws es m = All valid es × (ws ≡ map packed es ++ replicate m 0)
+    Packs ws es m = AllByRecursion valid es × (ws ≡ map packed es ++ replicate m 0)
 
     first_entry : (w : ℕ) (r : Option E) → read w ≡ r → is_some r ≡ true → (ws : List ℕ) (o : E) (old : List E) (m : ℕ) → w < 2 ^ 32 → Packs ws (entries_after read ws old) m
         → Packs (w ∷ ws) (on_entry r (λ e. e ∷ entries_after read ws old) (o ∷ old)) m
@@ -81,7 +81,7 @@ module _ {E : Type 0} (packed : E → ℕ) (read : ℕ → Option E) where
     first_entry w (Some x) e some ws o old m b ih = ((accepts w x b e, ih.0), ap₂ ◌∷◌ (sym (packs w x b e)) ih.1)
 
     -- Accepted words, from number k on, are those of the entries that they unpack to.
-    packed_back : (ws : List ℕ) (old : List E) (n k : ℕ) → n ≡ k + length old → length old ≤ length ws → All (λ w. w < 2 ^ 32) ws → first_bad read n k ws ≡ None → Packs ws (entries_after read ws old) (length ws - length old)
+    packed_back : (ws : List ℕ) (old : List E) (n k : ℕ) → n ≡ k + length old → length old ≤ length ws → AllByRecursion (λ w. w < 2 ^ 32) ws → first_bad read n k ws ≡ None → Packs ws (entries_after read ws old) (length ws - length old)
     packed_back [] [] n k e l h v = (tt, refl)
     packed_back [] (o ∷ old) n k e l h v = absurd (omega arith)
     packed_back (w ∷ ws) [] n k e l h v =
@@ -92,8 +92,8 @@ module _ {E : Type 0} (packed : E → ℕ) (read : ℕ → Option E) where
         let a : length (w ∷ ws) - length (o ∷ old) ≡ length ws - length old = omega arith in
         simp a (first_entry w (read w) refl (sym (good_before read n k w (omega arith)) ∙ f.0) ws o old (length ws - length old) h.0 (packed_back ws old n (k + 1) (omega arith) (omega arith) h.1 f.1))
 
-    pub block_packs : (bs : List ℕ) (old : List E) → length bs ≡ 512 → length old ≤ 128 → All (λ b. b < 256) bs → first_bad read (length old) 0 (words bs) ≡ None
-        → All valid (entries_after read (words bs) old) × (bs ≡ block_of (map packed (entries_after read (words bs) old)))
+    pub block_packs : (bs : List ℕ) (old : List E) → length bs ≡ 512 → length old ≤ 128 → AllByRecursion (λ b. b < 256) bs → first_bad read (length old) 0 (words bs) ≡ None
+        → AllByRecursion valid (entries_after read (words bs) old) × (bs ≡ block_of (map packed (entries_after read (words bs) old)))
     block_packs bs old whole few small ok =
         let es = entries_after read (words bs) old in
         let l : length (words bs) ≡ 128 = length-words 128 bs (omega arith) in
@@ -159,7 +159,7 @@ module _ {E : Type 0} (packed : E → ℕ) (read : ℕ → Option E) (valid : E 
     pub value : r ≡ unpack_answer b read (length old) bytes
     pub entries : out ≡ unpacked read bytes old
     pub first : Judged b read (length old) (words bytes) r
-    pub back : r ≡ Ok tt → length old ≤ 128 → All valid out × (bytes ≡ block_of (map packed out))
+    pub back : r ≡ Ok tt → length old ≤ 128 → AllByRecursion valid out × (bytes ≡ block_of (map packed out))
 
   pub told : (r : Result (Unit {0}) Fault) (out : List E) → r ≡ unpack_answer b read (length old) bytes → out ≡ unpacked read bytes old → Told r out
   told r out value entries = record {
@@ -167,6 +167,6 @@ module _ {E : Type 0} (packed : E → ℕ) (read : ℕ → Option E) (valid : E 
     entries = entries;
     first = judged read (length old) b (words bytes) r value;
     back = λ ok few.
-        subst (λ es. All valid es × (bytes ≡ block_of (map packed es))) (sym entries)
+        subst (λ es. AllByRecursion valid es × (bytes ≡ block_of (map packed es))) (sym entries)
         (block_packs packed read valid accepts packs bytes old whole few (All-from_get_or (λ c. c < 256) bytes 0 (λ i h. fits i)) (accepted b _ r value ok));
   }

@@ -4,7 +4,7 @@ use native.Mathlib.Nat.{div-div-eq-div-mul}
 use borrow.Rule.Slice.PartMut.{put_mid}
 use Rattle.std.proofs.lemmas.Nat.{div-add-mod', mod-mul-add, div_below}
 use Rattle.std.proofs.lemmas.List.{drop-drop}
-use Rattle.std.specs.List.{flat_map, AllByRecursion as All}
+use Rattle.std.specs.List.{flat_map, AllByRecursion}
 use Rattle.tables.specs.Words.{bytes_of, word_from, words}
 
 -- what a write to n bytes from place a on leaves
@@ -64,11 +64,11 @@ word_below : (a b c d : ℕ) → a < 256 → b < 256 → c < 256 → d < 256 →
 word_below a b c d ha hb hc hd = omega arith
 
 -- The words of words' bytes, and the bytes of bytes' words.
-pub words_joined : (ws rest : List ℕ) → All (λ w. w < 2 ^ 32) ws → words (flat_map bytes_of ws ++ rest) ≡ ws ++ words rest
+pub words_joined : (ws rest : List ℕ) → AllByRecursion (λ w. w < 2 ^ 32) ws → words (flat_map bytes_of ws ++ rest) ≡ ws ++ words rest
 words_joined [] rest h = refl
 words_joined (w ∷ ws) rest h = ap₂ ◌∷◌ (word_of_bytes w h.0) (words_joined ws rest h.1)
 
-pub joined_words : (k : ℕ) (bs : List ℕ) → length bs ≡ 4 * k → All (λ b. b < 256) bs → flat_map bytes_of (words bs) ≡ bs
+pub joined_words : (k : ℕ) (bs : List ℕ) → length bs ≡ 4 * k → AllByRecursion (λ b. b < 256) bs → flat_map bytes_of (words bs) ≡ bs
 joined_words k [] e h = refl
 joined_words k (a ∷ []) e h = absurd (omega arith)
 joined_words k (a ∷ b ∷ []) e h = absurd (omega arith)
@@ -76,7 +76,7 @@ joined_words k (a ∷ b ∷ c ∷ []) e h = absurd (omega arith)
 joined_words k (a ∷ b ∷ c ∷ d ∷ bs) e h =
     ap₂ ◌++◌ (bytes_of_word a b c d h.0 h.1.0 h.1.1.0 h.1.1.1.0) (joined_words (k - 1) bs (omega arith) h.1.1.1.1)
 
-pub words_below : (bs : List ℕ) → All (λ b. b < 256) bs → All (λ w. w < 2 ^ 32) (words bs)
+pub words_below : (bs : List ℕ) → AllByRecursion (λ b. b < 256) bs → AllByRecursion (λ w. w < 2 ^ 32) (words bs)
 words_below [] h = tt
 words_below (a ∷ []) h = tt
 words_below (a ∷ b ∷ []) h = tt

@@ -1,6 +1,6 @@
 // The header of a volume, in card block 0: the version, the two sizes, and the number of the fingerprint rule.
 ghost use Rattle.std.specs.Prelude.{◌≡◌, true, Ok};
-ghost use Rattle.std.specs.List.{AllByRecursion as All};
+ghost use Rattle.std.specs.List.{AllByRecursion};
 ghost use Rattle.tables.specs.Headers.{header_words, header_read};
 ghost use Rattle.tables.specs.Layouts.{ValidShape};
 ghost use Rattle.tables.specs.Tables.{block_of};
@@ -22,7 +22,7 @@ const VERSION: u32 = 1;
 // The header of a volume of this shape under this rule: four plain words, and zero words after them.
 pub fn pack_header<R: Rule>(shape: Shape, rule: &R) -> [u8; BLOCK_SIZE]
     ensures bytes { result ≡ block_of (header_words shape (R.Rule.id rule.now)) }
-    ensures plain { All (λ w. of_kind Plain w ≡ true) (header_words shape (R.Rule.id rule.now)) }
+    ensures plain { AllByRecursion (λ w. of_kind Plain w ≡ true) (header_words shape (R.Rule.id rule.now)) }
     ensures back { ValidShape shape → header_read (R.Rule.id rule.now) (words result) ≡ Ok shape }
 {
     pack_block(&[

@@ -1,7 +1,7 @@
 // Table blocks and headers on a card.
 ghost use Rattle.std.specs.Prelude.{◌≡◌, ◌≤◌, map, length, is_ok, if◌then◌else◌, Ok};
 ghost use Rattle.std.specs.Result.{result_and};
-ghost use Rattle.std.specs.List.{AllByRecursion as All};
+ghost use Rattle.std.specs.List.{AllByRecursion};
 ghost use Rattle.cards.specs.Answers.{answer, Written};
 ghost use Rattle.tables.specs.Headers.{header_words, header_read};
 ghost use Rattle.tables.specs.Layouts.{ValidShape};
@@ -23,8 +23,8 @@ pub fn save_entries<C: Card, E: Entry>(
     entries: &[E],
 ) -> Result<(), Fault>
     ensures value { result ≡ answer (C.Card.meaning card.old).size block 512 }
-    ensures card { Written result (C.Card.meaning card.old) block (block_of (map packed entries.now)) (C.Card.meaning card.new) }
-    ensures exact { C.Card.writes card.old block (block_of (map packed entries.now)) card.new }
+    ensures card { Written result (C.Card.meaning card.old) block (block_of (map E.Entry.packed entries.now)) (C.Card.meaning card.new) }
+    ensures exact { C.Card.writes card.old block (block_of (map E.Entry.packed entries.now)) card.new }
     ensures lender { C.Card.lenders card.new ≡ C.Card.lenders card.old }
 {
     card.write(block, &pack_block(entries))
@@ -37,9 +37,9 @@ pub fn load_entries<C: Card, E: Entry + Copy>(
     physical: u16,
     out: &mut [E],
 ) -> Result<(), Fault>
-    ensures value { result ≡ result_and (answer (C.Card.meaning card.now).size block 512) (unpack_answer block (reads physical) (length out.old) ((C.Card.meaning card.now).present block)) }
-    ensures entries { out.new ≡ (if is_ok (answer (C.Card.meaning card.now).size block 512) then unpacked (reads physical) ((C.Card.meaning card.now).present block) out.old else out.old) }
-    ensures back { result ≡ Ok tt → length out.old ≤ 128 → All (valid physical) out.new × ((C.Card.meaning card.now).present block ≡ block_of (map packed out.new)) }
+    ensures value { result ≡ result_and (answer (C.Card.meaning card.now).size block 512) (unpack_answer block (E.Entry.reads physical) (length out.old) ((C.Card.meaning card.now).present block)) }
+    ensures entries { out.new ≡ (if is_ok (answer (C.Card.meaning card.now).size block 512) then unpacked (E.Entry.reads physical) ((C.Card.meaning card.now).present block) out.old else out.old) }
+    ensures back { result ≡ Ok tt → length out.old ≤ 128 → AllByRecursion (E.Entry.valid physical) out.new × ((C.Card.meaning card.now).present block ≡ block_of (map E.Entry.packed out.new)) }
 {
     let mut bytes = [0u8; BLOCK_SIZE];
     card.read(block, &mut bytes)?;

@@ -1,6 +1,6 @@
 // A table block: the words of a run of entries, and zero words after them. One text for every kind of entry.
 ghost use Rattle.std.specs.Prelude.{◌≡◌, ℕ, ◌+◌, ◌*◌, ◌≤◌, [], ◌++◌, map, length, take, drop, Ok, slice_set};
-ghost use Rattle.std.specs.List.{AllByRecursion as All};
+ghost use Rattle.std.specs.List.{AllByRecursion};
 ghost use Rattle.tables.specs.Words.{words, bytes_of};
 ghost use Rattle.tables.specs.Tables.{block_of, good_word, unpack_answer, Judged, on_entry, unpacked, UnpacksTo};
 
@@ -25,7 +25,7 @@ fn put_word(bytes: &mut [u8], i: usize, word: Word)
 fn put_entries<E: Entry>(entries: &[E], bytes: &mut [u8])
     requires few { length entries.now ≤ 128 }
     requires zeros { bytes.old ≡ block_of [] }
-    ensures { bytes.new ≡ block_of (map packed entries.now) }
+    ensures { bytes.new ≡ block_of (map E.Entry.packed entries.now) }
 {
     for (i, entry) in entries.iter().enumerate() {
         put_word(bytes, i, entry.pack());
@@ -35,8 +35,8 @@ fn put_entries<E: Entry>(entries: &[E], bytes: &mut [u8])
 // Packs entries to a block: word i is the word of entry i, and the words after the last entry are zero. A block has 128
 // words, and entries past these are left out.
 pub fn pack_block<E: Entry>(entries: &[E]) -> [u8; BLOCK_SIZE]
-    ensures bytes { result ≡ block_of (map packed entries.now) }
-    ensures back { (p : ℕ) → length entries.now ≤ 128 → All (valid p) entries.now → UnpacksTo (reads p) entries.now result }
+    ensures bytes { result ≡ block_of (map E.Entry.packed entries.now) }
+    ensures back { (p : ℕ) → length entries.now ≤ 128 → AllByRecursion (E.Entry.valid p) entries.now → UnpacksTo (E.Entry.reads p) entries.now result }
 {
     let mut block = [0u8; BLOCK_SIZE];
     put_entries(&entries[..entries.len().min(WORDS_PER_BLOCK)], &mut block);
@@ -45,8 +45,8 @@ pub fn pack_block<E: Entry>(entries: &[E]) -> [u8; BLOCK_SIZE]
 
 // Takes up word k: as entry k, or as a zero word after the last entry. Answers whether it is good.
 fn take_word<E: Entry + Copy>(word: Word, k: usize, physical: u16, out: &mut [E]) -> bool
-    ensures value { result ≡ good_word (reads physical) (length out.old) k word.bits }
-    ensures entries { out.new ≡ on_entry (reads physical word.bits) (slice_set out.old k) out.old }
+    ensures value { result ≡ good_word (E.Entry.reads physical) (length out.old) k word.bits }
+    ensures entries { out.new ≡ on_entry (E.Entry.reads physical word.bits) (slice_set out.old k) out.old }
 {
     if k >= out.len() {
         return word.is_blank();
@@ -69,10 +69,10 @@ pub fn unpack_block<E: Entry + Copy>(
     physical: u16,
     out: &mut [E],
 ) -> Result<(), Fault>
-    ensures value { result ≡ unpack_answer card_block (reads physical) (length out.old) bytes.now }
-    ensures entries { out.new ≡ unpacked (reads physical) bytes.now out.old }
-    ensures first { Judged card_block (reads physical) (length out.old) (words bytes.now) result }
-    ensures back { result ≡ Ok tt → length out.old ≤ 128 → All (valid physical) out.new × (bytes.now ≡ block_of (map packed out.new)) }
+    ensures value { result ≡ unpack_answer card_block (E.Entry.reads physical) (length out.old) bytes.now }
+    ensures entries { out.new ≡ unpacked (E.Entry.reads physical) bytes.now out.old }
+    ensures first { Judged card_block (E.Entry.reads physical) (length out.old) (words bytes.now) result }
+    ensures back { result ≡ Ok tt → length out.old ≤ 128 → AllByRecursion (E.Entry.valid physical) out.new × (bytes.now ≡ block_of (map E.Entry.packed out.new)) }
 {
     let mut left: &[u8] = bytes;
     let mut k = 0;

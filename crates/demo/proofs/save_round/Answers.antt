@@ -8,7 +8,7 @@ use Rattle.demo.proofs.save_round.Goals as goal
 pub loop-b-preserved : goal.loop-b-preserved
 loop-b-preserved g c =
     let meaning = g.C.Card.meaning in
-    round_more c.args.round.now c.loop-b.b (meaning c.args.card.now) (meaning c.loop-b.card) (meaning c.save_line.new.card) c.loop-b-test.true c.loop-b.invariant (c.in-ok-save-line.ensures refl)
+    round_more c.args.round.now c.loop-b.b (meaning c.args.card.now) (meaning c.loop-b.card) (meaning c.save_line.new.card) c.loop-b-test.true c.loop-b.invariant (c.in_ok-save_line.ensures refl)
 
 pub returns : goal.returns
 returns g c =

@@ -6,7 +6,7 @@ use Rattle.card_cases.proofs.durable.save_and_lose.Goals as goal
 
 pub returns : goal.returns
 returns g c =
-    let w = c.in-ok-write.ensures in
+    let w = c.in_ok-write.ensures in
     let f = c.barrier.ensures.card in
     let l = c.lose_power.ensures.card in
     let m = g.C.Card.meaning c.args.card.now in

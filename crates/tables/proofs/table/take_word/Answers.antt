@@ -9,6 +9,6 @@ returns-then-k-out g c =
     let k = c.args.k in
     let w = c.args.word.bits in
     record {
-      value = c.is-blank.ensures ∙ sym (good_after read _ k w (search rules));
+      value = c.is_blank.ensures ∙ sym (good_after read _ k w (search rules));
       entries = none_to_set (read w) out k (search rules);
     }

@@ -24,8 +24,8 @@ returns-then-not-take_word g c =
     (ap (unless_bad c.args.card_block) (sym s.0)) s.1 in
     record { value = t.value; entries = t.entries; first = t.first; back = t.back }
 
-pub overflow-add-k : goal.overflow-add-k
-overflow-add-k g c = let e = c.loop-word.invariant.0 in let h = c.told-bytes in search (rules, e, h)
+pub overflow_add-k : goal.overflow_add-k
+overflow_add-k g c = let e = c.loop-word.invariant.0 in let h = c.told-bytes in search (rules, e, h)
 
 pub loop-word-preserved : goal.loop-word-preserved
 loop-word-preserved g c =
@@ -46,7 +46,7 @@ returns g c =
     let p = c.args.physical in
     let bytes = c.args.bytes.now in
     let old = c.args.out.now in
-    let none = words_none c.loop-word.left.now c.in-default.ensures in
+    let none = words_none c.loop-word.left.now c.in_default.ensures in
     let e = end (m.reads p) (words bytes) old c.loop-word.k c.loop-word.out (subst (λ xs. Reached (m.reads p) (words bytes) old c.loop-word.k xs c.loop-word.out) none c.loop-word.invariant.1) in
     let t = told m.packed (m.reads p) (m.valid p) (laws.accepts p) (laws.packs p) c.args.card_block bytes c.told-bytes c.fits-bytes old (Ok tt) c.loop-word.out
     (ap (unless_bad c.args.card_block) (sym e.0)) e.1 in
