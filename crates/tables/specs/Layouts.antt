@@ -50,8 +50,8 @@ abbrev pub table_blocks : Shape → ℕ
 table_blocks s = blocks_for s.logical + blocks_for s.physical + blocks_for s.physical
 
 -- the card block of physical block p
-abbrev pub card_block : Shape → ℕ → ℕ
-card_block s p = 1 + table_blocks s + p
+abbrev pub card_block_of : Shape → ℕ → ℕ
+card_block_of s p = 1 + table_blocks s + p
 
 abbrev pub blocks_needed : Shape → ℕ
 blocks_needed s = 1 + table_blocks s + s.physical

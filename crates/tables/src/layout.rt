@@ -1,6 +1,6 @@
 // Where a volume lies on its card: the header, the blocks of the link, count and print tables, and the physical blocks.
 ghost use Rattle.std.specs.Prelude.{◌≡◌, ◌+◌, ◌<◌, ◌≤◌, MatchOption};
-ghost use Rattle.tables.specs.Layouts.{sized_or, shape_of, blocks_for, entries_of, first_block, table_blocks, part, table_block, card_block, blocks_needed, EachInOne};
+ghost use Rattle.tables.specs.Layouts.{sized_or, shape_of, blocks_for, entries_of, first_block, table_blocks, part, table_block, card_block_of, blocks_needed, EachInOne};
 
 use crate::entry::PhysicalBlock;
 use crate::table::WORDS_PER_BLOCK;
@@ -125,7 +125,7 @@ impl Shape {
 
     // The card block of a physical block.
     pub fn card_block(self, block: PhysicalBlock) -> usize
-        ensures { result ≡ card_block self block.number }
+        ensures { result ≡ card_block_of self block.number }
     {
         1 + self.table_blocks() + usize::from(block.number)
     }
