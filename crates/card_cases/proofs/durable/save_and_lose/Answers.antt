@@ -1,6 +1,6 @@
-use Rattle.std.proofs.Common.{◌≡◌, ◌<◌, cond, length, is_ok, ap, ◌∙◌, arith}
-use Rattle.std.proofs.lemmas.Bool.Decides.{nat_tests}
+use Rattle.std.proofs.Common.{◌≡◌, ◌<◌, cond, length, is_ok, ap, ◌∙◌}
 use Rattle.cards.specs.Answers.{answer}
+use Rattle.cards.proofs.Admitted.{admitted}
 use Rattle.cards.proofs.Outlives.{outlives, when_true_is}
 use Rattle.card_cases.proofs.durable.save_and_lose.Goals as goal
 
@@ -12,7 +12,7 @@ returns g c =
     let m = g.C.Card.meaning c.args.card.now in
     let k = g.C.Card.meaning c.lose_power.new.self in
     let size : k.size ≡ m.size = l.size ∙ f.size ∙ w.card.size in
-    let lt : c.args.b < m.size = grind (arith, nat_tests, w.value) in
+    let lt : c.args.b < m.size = (admitted m.size c.args.b (length c.args.block.now) tt w.value).1 in
     let kept = outlives m _ _ k c.args.b _ lt w.card f l in
     let ok = ap is_ok w.value in
     record {

@@ -1,8 +1,8 @@
-use Rattle.std.proofs.Common.{◌≡◌, ◌^◌, ◌<◌, cond, map, length, is_ok, Some, sym, refl, ap, ◌∙◌, ap₂, arith}
+use Rattle.std.proofs.Common.{◌≡◌, ◌^◌, ◌<◌, cond, map, length, is_ok, Some, sym, refl, ap, ◌∙◌, ap₂}
 use Rattle.std.proofs.ByRecursion.{All-weaker}
-use Rattle.std.proofs.lemmas.Bool.Decides.{nat_tests}
 use Rattle.std.specs.Result.{result_and}
 use Rattle.cards.specs.Answers.{answer}
+use Rattle.cards.proofs.Admitted.{admitted}
 use Rattle.cards.proofs.Outlives.{outlives, when_true_is}
 use Rattle.tables.specs.Tables.{block_of, unless_bad, unpack_answer, unpacked}
 use Rattle.tables.proofs.RoundTrips.{block_unpacks}
@@ -22,7 +22,7 @@ returns g c =
     let m = g.C.Card.meaning c.args.card.now in
     let k = g.C.Card.meaning c.lose_power.new.self in
     let size : k.size ≡ m.size = l.size ∙ f.size ∙ w.card.size in
-    let lt : b < m.size = grind (arith, nat_tests, w.value) in
+    let lt : b < m.size = (admitted m.size b 512 tt w.value).1 in
     let kept = outlives m _ _ k b _ lt w.card f l in
     let value = c.load_entries.ensures.value ∙ ap₂ (λ s x. result_and (answer s b 512) (unpack_answer b (e.reads p) (length old) x)) size kept in
     let entries = c.load_entries.ensures.entries ∙ ap₂ (λ s x. cond (is_ok (answer s b 512)) (unpacked (e.reads p) x old) old) size kept in
