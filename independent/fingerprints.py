@@ -2,7 +2,7 @@
 """Fingerprints of lines of text, written from the rules alone and sharing no code with the store.
 
 Each line of standard input is a published hash in hexadecimal, or a "-", then a space and a text. For each line this prints the 32-bit FNV-1a hash
-of the text, and the words that a print table holds for the block with that text (zero bytes after it, 512 in all): under
+of the text, and the words that a print table holds for the block with that text (cut to 512 bytes, or zero bytes after it): under
 rule 1, FNV-1a, and under rule 2, the sum of the block's 128 little-endian words. Both are folded to 30 bits, and the two
 bits above them are set, which is the kind of a print. The last line says how many of the published hashes were found.
 """

@@ -1,13 +1,13 @@
 #!/usr/bin/env python3
 """Brings this repository's own definitions and lemmas to the spelling of today's Rattle: words in snake case, a relation
 in camel case, and a dash only where the name of a lemma joins two names. It runs once, right after port.py, at the top of
-the repository, and goes by text: comments and strings stay. It stops, and writes nothing, where two names would fall
-together in one file.
+the repository, and goes by text: comments stay, and so do the strings of .rt files. It stops, and writes nothing, where two
+names would fall together in one file, except for those of READ.
 """
 import os
 import re
 
-# Names that are not only respelled with `_` for `-`.
+# Names that do not simply get `_` for each `-`, and `on-shelf`.
 NAMED = {
     "meant-write": "MeantWrite",
     "block-put": "block_at-put_block",
@@ -24,7 +24,7 @@ NAMED = {
     "on-shelf": "on_shelf",
 }
 
-# The repository's own names with a dash: definitions, fields and lemmas of specs/ and proofs/.
+# The repository's own names with a dash that port.py leaves: definitions, fields and lemmas of specs/ and proofs/.
 OWN = """
 absent-parts add-word after-loss after-rule as-part as-tests at-number back-flushed back-lost back-write back-writes
 back-wrote bad-size bits-set block-cut block-from-words block-is block-packs block-unpacks blocks-for blocks-needed

@@ -1,5 +1,5 @@
 // A card that is lent is a card too, so that a shelf can stand before a card that its owner keeps. The owner can then tell
-// what became of the card. Of a card that a shelf owns, whoever lent its bytes can prove nothing in the end.
+// what became of the card. Of a card that a shelf owns, whoever lent its bytes has no proof in the end of what they hold.
 ghost use Rattle.std.specs.Prelude.{◌∷◌};
 
 use crate::card::Card;

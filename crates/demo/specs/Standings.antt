@@ -4,8 +4,8 @@ use Rattle.cards.specs.Blocks.{content}
 use Rattle.cards.specs.Meanings.{Content}
 use Rattle.demo.specs.declared.standing.Standing.{Standing}
 
-abbrev pub text_of : Standing → List ℕ
-text_of s =
+abbrev pub standing_text : Standing → List ℕ
+standing_text s =
     codes "round "
     ++ (decimal s.round
     ++ (codes ", "
@@ -18,4 +18,4 @@ text_of s =
 -- the writes of a round: its first line to block k, and the others to the blocks after it
 abbrev pub writes_from : ℕ → List Standing → List (ℕ × Content)
 writes_from k [] = []
-writes_from k (s ∷ ss) = (k, content (text_of s)) ∷ writes_from (suc k) ss
+writes_from k (s ∷ ss) = (k, content (standing_text s)) ∷ writes_from (suc k) ss

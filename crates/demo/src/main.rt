@@ -6,7 +6,7 @@
 ghost use Rattle.std.specs.Prelude.{◌≡◌, true, is_ok};
 ghost use Rattle.cards.specs.Answers.{answer, Written, MeantWrite, WroteEach};
 ghost use Rattle.cards.specs.Blocks.{content};
-ghost use Rattle.demo.specs.Standings.{text_of, writes_from};
+ghost use Rattle.demo.specs.Standings.{standing_text, writes_from};
 
 mod standing;
 mod table;
@@ -96,7 +96,7 @@ const PATTERN: u64 = 0x35;
 
 // Saves a line to block b, and says what came of it.
 fn save_line<C: Card>(rt: &HostRuntime, card: &mut C, b: usize, line: &Standing) -> io::Result<()>
-    ensures { is_ok result ≡ true → Written (answer (C.Card.meaning card.old).size b 512) (C.Card.meaning card.old) b (content (text_of line.now)) (C.Card.meaning card.new) }
+    ensures { is_ok result ≡ true → Written (answer (C.Card.meaning card.old).size b 512) (C.Card.meaning card.old) b (content (standing_text line.now)) (C.Card.meaning card.new) }
 {
     let text = line.to_string(rt.alloc())?;
     match save(card, b, text.as_str()) {

@@ -1,6 +1,6 @@
 // A player's standing after a round.
 ghost use Rattle.std.specs.Prelude.{Some};
-ghost use Rattle.demo.specs.Standings.{text_of};
+ghost use Rattle.demo.specs.Standings.{standing_text};
 
 use std::fmt;
 
@@ -14,7 +14,7 @@ pub struct Standing {
 
 // As in `round 2, Anna 1.5`.
 impl fmt::Display for Standing {
-    ghost output = { λ s. Some (text_of s) };
+    ghost output = { λ s. Some (standing_text s) };
 
     fn fmt<W: fmt::Write>(&self, f: &mut fmt::Formatter<W>) -> fmt::Result {
         let round = self.round;

@@ -1,4 +1,5 @@
--- A print has 30 bits.
+-- A print has 30 bits. These are proofs and define nothing; they stand here because the implementations of `Rule` cite
+-- them, each as its law `small`.
 use Rattle.std.specs.Prelude.{ℕ, ◌/◌, ◌%◌, ◌^◌, ◌<◌, List, [], ◌∷◌, fold}
 use Rattle.std.proofs.Common.{arith}
 use Rattle.std.proofs.lemmas.Nat.{xor_lt, mod_below}
