@@ -1,6 +1,7 @@
 pub mod Admitted
 pub mod BlockLaws
 pub mod Outlives
+pub mod PlacesSearch
 pub mod PlainLaws
 pub mod Sequences
 pub mod ShelfLaws

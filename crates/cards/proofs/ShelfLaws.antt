@@ -6,7 +6,6 @@ use Rattle.cards.specs.Answers.{answer, Written, MeantWrite, WroteEach}
 use Rattle.cards.specs.Meanings.{Content, Meaning, In, Wrote, Flushed, Lost}
 use Rattle.cards.specs.OnShelf.{held, held_of, on_shelf, ShelfWrites}
 use Rattle.cards.specs.SoundCards.{length-content}
-use Rattle.cards.specs.declared.place.Place.{Place}
 use Rattle.cards.specs.declared.shelf.Shelf.{Shelf}
 use Rattle.cards.proofs.Admitted.{refused_past}
 use Rattle.cards.specs.Shelves.{Held, overlaid, shelved, place_from, place_of, goes, stored_at, stored, written_below_at, written_below}
@@ -188,12 +187,12 @@ one_narrowed m n h (Err f) whole e is =
     })
     (narrowed_same m n is)
 
-narrowed_all : (ps : List Place) (m n : Meaning) → WroteEach MeantWrite (held_of ps) m n → Narrowed (shelved m (held_of ps)) n
+narrowed_all : (ps : List Held) (m n : Meaning) → WroteEach MeantWrite (held_of ps) m n → Narrowed (shelved m (held_of ps)) n
 narrowed_all [] m n is = narrowed_same m n is
 narrowed_all (p ∷ ps) m n w =
     let k = w.0 in
     narrowed_trans (shelved m (held_of (p ∷ ps))) (shelved k (held_of ps)) n
-    (narrowed_under m k (held p) (held_of ps) (one_narrowed m k (held p) _ (length-content p.bytes) refl w.1))
+    (narrowed_under m k (held p) (held_of ps) (one_narrowed m k (held p) _ (length-content p.1) refl w.1))
     (narrowed_all ps k n w.2)
 
 -- ---- a write, a barrier and a loss
@@ -208,18 +207,18 @@ narrowed_wrote m n o b c lt f w =
       doubt_there = λ k y l ne h. f.fewer k y l (w.doubt_there k y (within k l) ne h);
     }
 
-written_below_narrowed : (t : Bool) (ps : List Place) (m n : Meaning) → WroteEach MeantWrite (cond t [] (held_of ps)) m n → Narrowed (shelved m (held_of ps)) (shelved n (cond t (held_of ps) []))
+written_below_narrowed : (t : Bool) (ps : List Held) (m n : Meaning) → WroteEach MeantWrite (cond t [] (held_of ps)) m n → Narrowed (shelved m (held_of ps)) (shelved n (cond t (held_of ps) []))
 written_below_narrowed true ps m n is = narrowed_same _ _ (ap (λ k. shelved k (held_of ps)) is)
 written_below_narrowed false ps m n w = narrowed_all ps m n w
 
-wrote_at : (o : Option ℕ) (ps : List Place) (m n : Meaning) (b : ℕ) (c : Content) → place_of (held_of ps) b ≡ o → b < m.size → WroteEach MeantWrite (written_below_at o (held_of ps)) m n
+wrote_at : (o : Option ℕ) (ps : List Held) (m n : Meaning) (b : ℕ) (c : Content) → place_of (held_of ps) b ≡ o → b < m.size → WroteEach MeantWrite (written_below_at o (held_of ps)) m n
     → Wrote (shelved m (held_of ps)) b c (shelved n (stored_at o (held_of ps) b c))
 wrote_at (Some i) ps m n b c e lt is = subst (λ k. Wrote (shelved m (held_of ps)) b c (shelved k (set (held_of ps) i (b, c)))) (sym is) (replaced m (held_of ps) b i c e)
 wrote_at None ps m n b c e lt w =
     let room = ltb (length (held_of ps)) 4 in
     narrowed_wrote _ (shelved n (cond room (held_of ps) [])) _ b c lt (written_below_narrowed room ps m n w) (added n (cond room (held_of ps) []) b c)
 
-pub shelf_wrote : (ps : List Place) (m n : Meaning) (hs : List Held) (b : ℕ) (c : Content) → b < m.size → WroteEach MeantWrite (written_below (held_of ps) b) m n → hs ≡ stored (held_of ps) b c
+pub shelf_wrote : (ps : List Held) (m n : Meaning) (hs : List Held) (b : ℕ) (c : Content) → b < m.size → WroteEach MeantWrite (written_below (held_of ps) b) m n → hs ≡ stored (held_of ps) b c
     → Wrote (shelved m (held_of ps)) b c (shelved n hs)
 shelf_wrote ps m n hs b c lt w is = subst (λ hs. Wrote (shelved m (held_of ps)) b c (shelved n hs)) (sym is) (wrote_at _ ps m n b c refl lt w)
 
@@ -241,7 +240,7 @@ shelf_writes meaning writes s t b x e held below =
       below = subst (λ y. WroteEach writes (cond y (written_below (on_shelf s) b) []) s.card t.card) ok below;
     }
 
-pub shelf_flushed : (ps : List Place) (m k n : Meaning) → WroteEach MeantWrite (held_of ps) m k → Flushed k n → Flushed (shelved m (held_of ps)) (shelved n [])
+pub shelf_flushed : (ps : List Held) (m k n : Meaning) → WroteEach MeantWrite (held_of ps) m k → Flushed k n → Flushed (shelved m (held_of ps)) (shelved n [])
 shelf_flushed ps m k n w g =
     let f = narrowed_all ps m k w in
     let within : (b : ℕ) → b < m.size → b < k.size = λ b lt. omega (arith, f.size) in

@@ -3,6 +3,7 @@ use Rattle.std.specs.Prelude.{◌≡◌, ℕ, cond, List, [], ◌∷◌, length,
 use Rattle.cards.specs.declared.fault.Layer.TheVariants.{Card}
 use Rattle.cards.specs.declared.fault.Fault.{Fault}
 use Rattle.cards.specs.declared.fault.Fault.TheVariants.{BufferLength, CardBlock}
+use Rattle.cards.specs.Lenders.{Names}
 use Rattle.cards.specs.Meanings.{Content, Meaning, Wrote}
 
 -- a card of the given size, at block b with a buffer of n bytes: first the buffer is tested, then the block
@@ -16,6 +17,10 @@ Written r m b c n = MatchBool (is_ok r) (Wrote m b c n) (n ≡ m)
 -- a write, by what a card means before and after it
 abbrev pub MeantWrite : Meaning → ℕ → Content → Meaning → Type 0
 MeantWrite m b c n = Written (answer m.size b (length c)) m b c n
+
+-- a write with all that a card says of it: what it does to a card of its make, what it means, and that the lenders stay
+abbrev pub CardWrite : {S : Type 0} → (S → Meaning) → (S → Names) → (S → ℕ → Content → S → Type 0) → S → ℕ → Content → S → Type 0
+CardWrite meaning lenders writes c b x d = writes c b x d × MeantWrite (meaning c) b x (meaning d) × (lenders d ≡ lenders c)
 
 -- a card went from c to d by one write for each block number and content of the list, in order, and by nothing else
 abbrev pub WroteEach : {S : Type 0} → (S → ℕ → Content → S → Type 0) → List (ℕ × Content) → S → S → Type 0

@@ -4,6 +4,7 @@ pub mod Faults
 pub mod Lenders
 pub mod Meanings
 pub mod OnShelf
+pub mod Places
 pub mod PlainCards
 pub mod Shelves
 pub mod SoundCards

@@ -1,22 +1,21 @@
 -- What a shelf holds, and what it means before its card.
-use Rattle.std.specs.Prelude.{◌≡◌, ℕ, cond, List, [], map, length, take, is_ok}
+use Rattle.std.specs.Prelude.{◌≡◌, ℕ, cond, List, [], map, length, is_ok}
 use Rattle.cards.specs.Answers.{answer, WroteEach}
 use Rattle.cards.specs.Blocks.{content}
 use Rattle.cards.specs.Meanings.{Content, Meaning}
 use Rattle.cards.specs.Shelves.{Held, shelved, stored, written_below}
-use Rattle.cards.specs.declared.place.Place.{Place}
 use Rattle.cards.specs.declared.shelf.Shelf.{Shelf}
 
 -- what a place holds; its bytes are 512, which the logic knows only where the code reads the array
-abbrev pub held : Place → Held
-held p = (p.block, content p.bytes)
+abbrev pub held : Held → Held
+held p = (p.0, content p.1)
 
-abbrev pub held_of : List Place → List Held
+abbrev pub held_of : List Held → List Held
 held_of ps = map held ps
 
--- the places in use are the first `used`
+-- what the places in use hold
 abbrev pub on_shelf : {C : Type 0} → Shelf C → List Held
-on_shelf s = held_of (take s.used s.places)
+on_shelf s = held_of s.places
 
 -- a shelf, by what its card means
 abbrev pub shelf_of : {C : Type 0} → (C → Meaning) → Shelf C → Meaning

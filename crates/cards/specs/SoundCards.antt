@@ -1,15 +1,14 @@
 -- Each make of card means something sound. These are proofs and define nothing; they stand here because the
 -- implementations of the interface cite them, each as its ghost member `sound`.
-use Rattle.std.specs.Prelude.{◌≡◌, ℕ, ◌+◌, ◌*◌, ◌≤◌, true, false, cond, List, [], ◌∷◌, length, take, ◌==◌, refl}
+use Rattle.std.specs.Prelude.{◌≡◌, ℕ, ◌+◌, ◌*◌, ◌≤◌, true, false, cond, List, [], ◌∷◌, length, ◌==◌, refl}
 use Rattle.std.proofs.Common.{ap, ◌∙◌, inl, ⊎_elim, arith, length-take, length-drop, length-append}
 use Rattle.std.proofs.lemmas.List.{length-replicate}
 use Rattle.cards.specs.Blocks.{content, block_at}
 use Rattle.cards.specs.Meanings.{Content, Meaning, In, Sound}
 use Rattle.cards.specs.OnShelf.{held_of, shelf_of}
 use Rattle.cards.specs.PlainCards.{plain}
-use Rattle.cards.specs.Shelves.{overlaid}
+use Rattle.cards.specs.Shelves.{Held, overlaid}
 use Rattle.cards.specs.WriteBackCards.{pairs, write_back}
-use Rattle.cards.specs.declared.place.Place.{Place}
 use Rattle.cards.specs.declared.shelf.Shelf.{Shelf}
 
 -- a block that lies in the run has 512 bytes
@@ -33,11 +32,11 @@ write_back_sound xs = record {
 }
 
 -- ---- what lies on a shelf has 512 bytes, and what is present on it is in doubt
-overlaid_held : (ps : List Place) (b : ℕ) (x : Content) (d : List Content) → In x d → In (overlaid (λ c y. c) (held_of ps) b x) (overlaid ◌∷◌ (held_of ps) b d)
+overlaid_held : (ps : List Held) (b : ℕ) (x : Content) (d : List Content) → In x d → In (overlaid (λ c y. c) (held_of ps) b x) (overlaid ◌∷◌ (held_of ps) b d)
 overlaid_held [] b x d h = h
 overlaid_held (p ∷ ps) b x d h =
     overlaid_held ps b _ _
-    (elim (p.block == b) as (λ t. In (cond t (content p.bytes) x) (cond t (content p.bytes ∷ d) d)) [ true ↦ inl refl | false ↦ h ])
+    (elim (p.0 == b) as (λ t. In (cond t (content p.1) x) (cond t (content p.1 ∷ d) d)) [ true ↦ inl refl | false ↦ h ])
 
 pub length-content : (xs : List ℕ) → length (content xs) ≡ 512
 length-content xs = simp (length-take, length-append, length-replicate) (omega arith)
@@ -45,19 +44,19 @@ length-content xs = simp (length-take, length-append, length-replicate) (omega a
 AllWhole : List Content → Type 0
 AllWhole d = (x : Content) → In x d → length x ≡ 512
 
-overlaid_whole : (ps : List Place) (b : ℕ) (d : List Content) → AllWhole d → AllWhole (overlaid ◌∷◌ (held_of ps) b d)
+overlaid_whole : (ps : List Held) (b : ℕ) (d : List Content) → AllWhole d → AllWhole (overlaid ◌∷◌ (held_of ps) b d)
 unfolding AllWhole
 overlaid_whole [] b d h = h
 overlaid_whole (p ∷ ps) b d h =
     overlaid_whole ps b _
-    (elim (p.block == b) as (λ t. AllWhole (cond t (content p.bytes ∷ d) d)) [ true ↦ λ x. ⊎_elim (λ is. ap length is ∙ length-content p.bytes) (h x) | false ↦ h ])
+    (elim (p.0 == b) as (λ t. AllWhole (cond t (content p.1 ∷ d) d)) [ true ↦ λ x. ⊎_elim (λ is. ap length is ∙ length-content p.1) (h x) | false ↦ h ])
 
 pub shelf_sound : {C : Type 0} (meaning : C → Meaning) → ((c : C) → Sound (meaning c)) → (s : Shelf C) → Sound (shelf_of meaning s)
 unfolding AllWhole
 shelf_sound meaning sound s =
     let m = meaning s.card in
     let ok = sound s.card in
-    let ps = take s.used s.places in
+    let ps = s.places in
     record {
       few = ok.few;
       in_doubt = λ b lt. overlaid_held ps b (m.present b) (m.doubt b) (ok.in_doubt b lt);

@@ -1,25 +1,25 @@
 // Bytes as a run of blocks, and the tests on a block number and a buffer that every make of card shares.
-ghost use Rattle.std.specs.Prelude.{◌≡◌, ◌+◌, ◌*◌, ◌<◌, ◌≤◌, length};
+ghost use Rattle.std.specs.Prelude.{◌≡◌, ◌+◌, ◌*◌, ◌<◌, ◌≤◌, length, Ok, Err, MatchResult};
 ghost use Rattle.cards.specs.Answers.{answer};
 ghost use Rattle.cards.specs.Blocks.{shown_blocks, block_at, put_block};
 
 use crate::card::{BLOCK_SIZE, MOST_BLOCKS};
 use crate::fault::{Fault, Layer};
 
-// Whether a card of so many blocks takes a buffer of this length at block b.
-pub(crate) fn admit(blocks: usize, b: usize, len: usize) -> Result<(), Fault>
-    ensures { result ≡ answer blocks b len }
+// The buffer as a block, if a card of so many blocks takes a buffer of this length at block b.
+pub(crate) fn admit(blocks: usize, b: usize, buffer: &[u8]) -> Result<&[u8; BLOCK_SIZE], Fault>
+    ensures { MatchResult result (λ block. (block.now ≡ buffer.now) × (Ok tt ≡ answer blocks b (length buffer.now))) (λ fault. Err fault ≡ answer blocks b (length buffer.now)) }
 {
-    if len != BLOCK_SIZE {
+    let Some(block) = buffer.as_array() else {
         return Err(Fault::BufferLength {
             layer: Layer::Card,
-            length: len,
+            length: buffer.len(),
         });
-    }
+    };
     if b >= blocks {
         return Err(Fault::CardBlock { block: b });
     }
-    Ok(())
+    Ok(block)
 }
 
 // How many blocks a card shows of memory of this length, at so many bytes for each block.
@@ -30,19 +30,18 @@ pub(crate) fn count(len: usize, each: usize) -> usize
     (len / each).min(MOST_BLOCKS)
 }
 
-// Reads the block at place p.
-pub(crate) fn get_block(bytes: &[u8], p: usize, block: &mut [u8])
-    requires within { p * 512 + 512 ≤ length bytes.now }
-    requires whole { length block.old ≡ 512 }
-    ensures { block.new ≡ block_at bytes.now p }
+// The block at place p.
+pub(crate) fn block_at(bytes: &[u8], p: usize) -> &[u8]
+    requires { p * 512 + 512 ≤ length bytes.now }
+    ensures value { result.now ≡ block_at bytes.now p }
+    ensures whole { length result.now ≡ 512 }
 {
-    block.copy_from_slice(&bytes[p * BLOCK_SIZE..p * BLOCK_SIZE + BLOCK_SIZE]);
+    &bytes[p * BLOCK_SIZE..p * BLOCK_SIZE + BLOCK_SIZE]
 }
 
 // Writes the block at place p.
-pub(crate) fn put_block(bytes: &mut [u8], p: usize, block: &[u8])
-    requires within { p * 512 + 512 ≤ length bytes.old }
-    requires whole { length block.now ≡ 512 }
+pub(crate) fn put_block(bytes: &mut [u8], p: usize, block: &[u8; BLOCK_SIZE])
+    requires { p * 512 + 512 ≤ length bytes.old }
     ensures { bytes.new ≡ put_block bytes.old p block.now }
 {
     let part = &mut bytes[p * BLOCK_SIZE..p * BLOCK_SIZE + BLOCK_SIZE];

@@ -17,9 +17,6 @@ pub trait Card {
     // The number of blocks, their present contents and their contents in doubt.
     ghost meaning: { Self → Meaning };
 
-    // At most 65,535 blocks; present contents are in doubt; contents are 512 bytes.
-    ghost sound: { (c : Self) → Sound (meaning c) };
-
     // The memory that was lent to the card.
     ghost lenders: { Self → Names };
 
@@ -58,4 +55,7 @@ pub trait Card {
         ensures card { Lost (meaning self.old) (meaning self.new) }
         ensures exact { loses self.old pattern self.new }
         ensures lender { lenders self.new ≡ lenders self.old };
+
+    // At most 65,535 blocks; present contents are in doubt; contents are 512 bytes.
+    ghost sound: { (c : Self) → Sound (meaning c) };
 }

@@ -8,16 +8,16 @@ use std::fmt;
 // The layer that refuses: cards below, tables in the middle, the volume on top.
 #[derive(Clone, Copy, PartialEq, Eq, Debug)]
 pub enum Layer {
-    Card,
-    Table,
-    Volume,
+    Card = 1,
+    Table = 2,
+    Volume = 3,
 }
 
 // The two sizes of a volume: how many logical and how many physical blocks it has.
 #[derive(Clone, Copy, PartialEq, Eq, Debug)]
 pub enum Extent {
-    Logical,
-    Physical,
+    Logical = 1,
+    Physical = 2,
 }
 
 #[derive(Clone, Copy, PartialEq, Eq, Debug)]
@@ -52,11 +52,7 @@ impl Layer {
     pub fn number(&self) -> u8
         ensures { result ≡ layer_number self.now }
     {
-        match self {
-            Layer::Card => 1,
-            Layer::Table => 2,
-            Layer::Volume => 3,
-        }
+        *self as u8
     }
 }
 
@@ -65,10 +61,7 @@ impl Extent {
     pub fn word(&self) -> usize
         ensures { result ≡ extent_word self.now }
     {
-        match self {
-            Extent::Logical => 1,
-            Extent::Physical => 2,
-        }
+        *self as usize
     }
 }
 

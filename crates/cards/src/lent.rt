@@ -6,17 +6,17 @@ use crate::card::Card;
 use crate::fault::Fault;
 
 impl<C: Card> Card for &mut C {
-    ghost meaning = { λ c. C.Card.meaning c.now };
+    ghost meaning = { λ c. C.meaning c.now };
 
-    ghost sound = { λ c. C.Card.sound c.now };
+    ghost sound = { λ c. C.sound c.now };
 
-    ghost lenders = { λ c. c.ghost_name ∷ C.Card.lenders c.now };
+    ghost lenders = { λ c. c.ghost_name ∷ C.lenders c.now };
 
-    ghost writes = { λ c b x d. C.Card.writes c.now b x d.now };
+    ghost writes = { λ c b x d. C.writes c.now b x d.now };
 
-    ghost flushes = { λ c d. C.Card.flushes c.now d.now };
+    ghost flushes = { λ c d. C.flushes c.now d.now };
 
-    ghost loses = { λ c pattern d. C.Card.loses c.now pattern d.now };
+    ghost loses = { λ c pattern d. C.loses c.now pattern d.now };
 
     fn blocks(&self) -> usize {
         (**self).blocks()

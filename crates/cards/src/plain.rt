@@ -6,7 +6,7 @@ ghost use Rattle.cards.specs.Meanings.{Flushed, Lost};
 ghost use Rattle.cards.specs.PlainCards.{plain, plain_write};
 ghost use Rattle.cards.specs.SoundCards.{plain_sound};
 
-use crate::blocks::{admit, count, get_block, put_block};
+use crate::blocks::{admit, block_at, count, put_block};
 use crate::card::{BLOCK_SIZE, Card};
 use crate::fault::Fault;
 
@@ -43,31 +43,18 @@ impl Card for PlainCard<'_> {
     }
 
     fn read(&self, b: usize, buffer: &mut [u8]) -> Result<(), Fault> {
-        admit(count(self.bytes.len(), BLOCK_SIZE), b, buffer.len())?;
-        get_block(self.bytes, b, buffer);
+        admit(self.blocks(), b, buffer)?;
+        buffer.copy_from_slice(block_at(self.bytes, b));
         Ok(())
     }
 
-    fn write(&mut self, b: usize, bytes: &[u8]) -> Result<(), Fault>
-        ensures value { result ≡ answer (plain self.old.bytes.now).size b (length bytes.now) }
-        ensures card { Written result (plain self.old.bytes.now) b bytes.now (plain self.new.bytes.now) }
-        ensures lender { loan self.new.bytes ≡ loan self.old.bytes }
-        ensures exact { self.new.bytes.now ≡ plain_write self.old.bytes.now b bytes.now }
-    {
-        admit(count(self.bytes.len(), BLOCK_SIZE), b, bytes.len())?;
-        put_block(self.bytes, b, bytes);
+    fn write(&mut self, b: usize, bytes: &[u8]) -> Result<(), Fault> {
+        let block = admit((*self).blocks(), b, bytes)?;
+        put_block(self.bytes, b, block);
         Ok(())
     }
 
-    fn barrier(&mut self)
-        ensures card { Flushed (plain self.old.bytes.now) (plain self.new.bytes.now) }
-        ensures lender { loan self.new.bytes ≡ loan self.old.bytes }
-        ensures exact { self.new.bytes.now ≡ self.old.bytes.now }
-    {}
+    fn barrier(&mut self) {}
 
-    fn lose_power(&mut self, _pattern: u64)
-        ensures card { Lost (plain self.old.bytes.now) (plain self.new.bytes.now) }
-        ensures lender { loan self.new.bytes ≡ loan self.old.bytes }
-        ensures exact { self.new.bytes.now ≡ self.old.bytes.now }
-    {}
+    fn lose_power(&mut self, _pattern: u64) {}
 }

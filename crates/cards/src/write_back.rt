@@ -7,7 +7,7 @@ ghost use Rattle.cards.specs.Meanings.{Flushed, Lost};
 ghost use Rattle.cards.specs.SoundCards.{write_back_sound};
 ghost use Rattle.cards.specs.WriteBackCards.{write_back, back_write, pairs, fresh, fresh_stays, after_loss, Settled};
 
-use crate::blocks::{admit, copy_block, count, get_block, put_block};
+use crate::blocks::{admit, block_at, copy_block, count, put_block};
 use crate::card::{BLOCK_SIZE, Card};
 use crate::fault::Fault;
 
@@ -72,37 +72,24 @@ impl Card for WriteBackCard<'_> {
     }
 
     fn read(&self, b: usize, buffer: &mut [u8]) -> Result<(), Fault> {
-        let n = count(self.bytes.len(), PAIR_SIZE);
-        admit(n, b, buffer.len())?;
-        get_block(self.bytes, n + b, buffer);
+        let n = self.blocks();
+        admit(n, b, buffer)?;
+        buffer.copy_from_slice(block_at(self.bytes, n + b));
         Ok(())
     }
 
-    fn write(&mut self, b: usize, bytes: &[u8]) -> Result<(), Fault>
-        ensures value { result ≡ answer (pairs self.old.bytes.now) b (length bytes.now) }
-        ensures card { Written result (write_back self.old.bytes.now) b bytes.now (write_back self.new.bytes.now) }
-        ensures lender { loan self.new.bytes ≡ loan self.old.bytes }
-        ensures exact { self.new.bytes.now ≡ back_write self.old.bytes.now b bytes.now }
-    {
-        let n = count(self.bytes.len(), PAIR_SIZE);
-        admit(n, b, bytes.len())?;
-        put_block(self.bytes, n + b, bytes);
+    fn write(&mut self, b: usize, bytes: &[u8]) -> Result<(), Fault> {
+        let n = (*self).blocks();
+        let block = admit(n, b, bytes)?;
+        put_block(self.bytes, n + b, block);
         Ok(())
     }
 
-    fn barrier(&mut self)
-        ensures card { Flushed (write_back self.old.bytes.now) (write_back self.new.bytes.now) }
-        ensures lender { loan self.new.bytes ≡ loan self.old.bytes }
-        ensures exact { Settled (fresh self.old.bytes.now) self.old.bytes.now self.new.bytes.now }
-    {
+    fn barrier(&mut self) {
         settle(self.bytes, ALL_FRESH);
     }
 
-    fn lose_power(&mut self, pattern: u64)
-        ensures card { Lost (write_back self.old.bytes.now) (write_back self.new.bytes.now) }
-        ensures lender { loan self.new.bytes ≡ loan self.old.bytes }
-        ensures exact { Settled (after_loss pattern self.old.bytes.now) self.old.bytes.now self.new.bytes.now }
-    {
+    fn lose_power(&mut self, pattern: u64) {
         settle(self.bytes, pattern);
     }
 }
