@@ -1,1 +1,2 @@
+pub mod Durable
 pub mod SavedBytes

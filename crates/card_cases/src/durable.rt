@@ -1,7 +1,8 @@
 // On every card, what was written before a barrier survives a loss of power.
-ghost use Rattle.std.specs.Prelude.{◌≡◌, length, is_ok, if◌then◌else◌, MatchBool};
-ghost use Rattle.cards.specs.Answers.{answer};
+ghost use Rattle.std.specs.Prelude.{◌≡◌, length, is_ok, if◌then◌else◌};
+ghost use Rattle.cards.specs.Answers.{answer, SavedThenLost};
 
+use crate::save::save;
 use cards::card::Card;
 use cards::fault::Fault;
 
@@ -13,13 +14,12 @@ pub fn save_and_lose<C: Card>(
     pattern: u64,
     buffer: &mut [u8],
 ) -> Result<(), Fault>
-    ensures value { result ≡ (if is_ok (answer (C.Card.meaning card.old).size b (length block.now)) then answer (C.Card.meaning card.old).size b (length buffer.old) else answer (C.Card.meaning card.old).size b (length block.now)) }
+    ensures value { result ≡ (if is_ok (answer (C.meaning card.old).size b (length block.now)) then answer (C.meaning card.old).size b (length buffer.old) else answer (C.meaning card.old).size b (length block.now)) }
     ensures buffer { buffer.new ≡ (if is_ok result then block.now else buffer.old) }
-    ensures card { MatchBool (is_ok (answer (C.Card.meaning card.old).size b (length block.now))) ((j k : C) × C.Card.writes card.old b block.now j × C.Card.flushes j k × C.Card.loses k pattern card.new) (C.Card.writes card.old b block.now card.new) }
-    ensures lender { C.Card.lenders card.new ≡ C.Card.lenders card.old }
+    ensures card { SavedThenLost C.writes C.flushes C.loses (answer (C.meaning card.old).size b (length block.now)) b block.now pattern card.old card.new }
+    ensures lender { C.lenders card.new ≡ C.lenders card.old }
 {
-    card.write(b, block)?;
-    card.barrier();
+    save(card, b, block)?;
     card.lose_power(pattern);
     card.read(b, buffer)
 }

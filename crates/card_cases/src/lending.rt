@@ -8,6 +8,7 @@ ghost use Rattle.cards.specs.PlainCards.{plain, plain_write};
 ghost use Rattle.cards.specs.WriteBackCards.{pairs};
 ghost use Rattle.card_cases.specs.SavedBytes.{SavedBytes};
 
+use crate::save::save;
 use cards::card::Card;
 use cards::fault::Fault;
 use cards::plain::PlainCard;
@@ -20,9 +21,7 @@ pub fn save_plain(bytes: &mut [u8], b: usize, block: &[u8]) -> Result<(), Fault>
     ensures bytes { bytes.new ≡ plain_write bytes.old b block.now }
 {
     let mut card = PlainCard::new(bytes);
-    card.write(b, block)?;
-    card.barrier();
-    Ok(())
+    save(&mut card, b, block)
 }
 
 // On a write-back card both copies of every block are then its fresh copy, and that of block b is the block.
@@ -31,24 +30,20 @@ pub fn save_write_back(bytes: &mut [u8], b: usize, block: &[u8]) -> Result<(), F
     ensures bytes { SavedBytes result bytes.old b block.now bytes.new }
 {
     let mut card = WriteBackCard::new(bytes);
-    card.write(b, block)?;
-    card.barrier();
-    Ok(())
+    save(&mut card, b, block)
 }
 
 // To any card behind a shelf exactly this write and a barrier go, or nothing. The block is then present below, and
 // nothing else is in doubt there.
 pub fn save_through_shelf<C: Card>(card: &mut C, b: usize, block: &[u8]) -> Result<(), Fault>
-    ensures value { result ≡ answer (C.Card.meaning card.old).size b (length block.now) }
-    ensures below { MatchBool (is_ok result) ((k : C) × C.Card.writes card.old b block.now k × C.Card.flushes k card.new) (card.new ≡ card.old) }
-    ensures present { is_ok result ≡ true → (C.Card.meaning card.new).present b ≡ block.now }
-    ensures settled { is_ok result ≡ true → (x : List ℕ) → In x ((C.Card.meaning card.new).doubt b) → x ≡ block.now }
-    ensures lender { C.Card.lenders card.new ≡ C.Card.lenders card.old }
+    ensures value { result ≡ answer (C.meaning card.old).size b (length block.now) }
+    ensures below { MatchBool (is_ok result) ((k : C) × C.writes card.old b block.now k × C.flushes k card.new) (card.new ≡ card.old) }
+    ensures present { is_ok result ≡ true → (C.meaning card.new).present b ≡ block.now }
+    ensures settled { is_ok result ≡ true → (x : List ℕ) → In x ((C.meaning card.new).doubt b) → x ≡ block.now }
+    ensures lender { C.lenders card.new ≡ C.lenders card.old }
 {
     let mut shelf = Shelf::new(card);
-    shelf.write(b, block)?;
-    shelf.barrier();
-    Ok(())
+    save(&mut shelf, b, block)
 }
 
 // So the bytes of a write-back card behind a shelf hold what they hold without the shelf.

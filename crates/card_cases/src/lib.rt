@@ -5,3 +5,4 @@ pub mod durable;
 #[cfg(test)]
 mod edges;
 pub mod lending;
+mod save;

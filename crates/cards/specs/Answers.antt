@@ -27,6 +27,11 @@ abbrev pub WroteEach : {S : Type 0} → (S → ℕ → Content → S → Type 0)
 WroteEach {S} writes [] c d = d ≡ c
 WroteEach {S} writes (h ∷ hs) c d = (k : S) × writes c h.0 h.1 k × WroteEach writes hs k d
 
+-- A card went from c to d by a write of x to block b, and, if r did not refuse that, by a barrier. What each of these does is
+-- what the make of card says.
+abbrev pub Saved : {S : Type 0} → (S → ℕ → Content → S → Type 0) → (S → S → Type 0) → Result (Unit {0}) Fault → ℕ → Content → S → S → Type 0
+Saved {S} writes flushes r b x c d = MatchBool (is_ok r) ((j : S) × writes c b x j × flushes j d) (writes c b x d)
+
 -- A card went from c to d by a write of x to block b, and, if r did not refuse that, by a barrier and then a loss of power
 -- under the pattern. What each of these does is what the make of card says.
 abbrev pub SavedThenLost : {S : Type 0} → (S → ℕ → Content → S → Type 0) → (S → S → Type 0) → (S → ℕ → S → Type 0) → Result (Unit {0}) Fault → ℕ → Content → ℕ → S → S → Type 0

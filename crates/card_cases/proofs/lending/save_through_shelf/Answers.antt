@@ -1,34 +1,14 @@
-use Rattle.std.proofs.Common.{◌≡◌, ℕ, List, length, Ok, ap, ◌∙◌, subst, rules}
-use Rattle.cards.specs.Answers.{answer}
+use Rattle.std.proofs.Common.{◌≡◌, ℕ, List, subst, rules}
 use Rattle.cards.specs.Meanings.{In}
-use Rattle.cards.specs.OnShelf.{on_shelf}
-use Rattle.card_cases.proofs.Saved.{one_write, saved}
+use Rattle.card_cases.proofs.Saved.{durable_below, saved_empties}
 use Rattle.card_cases.proofs.lending.save_through_shelf.Goals as goal
 
-pub returns : goal.returns
-returns g c =
-    let meaning = g.C.Card.meaning in
-    let writes = g.C.Card.writes in
-    let flushes = g.C.Card.flushes in
-    let s = c.new-shelf.result in
-    let t = c.write.new.self in
-    let u = c.barrier.new.self in
+pub returns-clause-settled : goal.returns-clause-settled
+returns-clause-settled g c =
+    let m = g.C.Card in
     let b = c.args.b in
     let x = c.args.block.now in
-    let w = c.in_ok-write.ensures in
-    let ok : Ok tt ≡ answer (meaning s.card.now).size b (length x) = w.value in
-    let went = one_write (λ r. meaning r.now) (λ r k y q. writes r.now k y q.now) (λ r q. flushes r.now q.now) s t u b x c.new-shelf.ensures.places ok w.exact c.barrier.ensures.exact in
-    let done = saved (meaning s.card.now) _ (meaning u.card.now) (on_shelf s) (on_shelf u) b x c.new-shelf.ensures.places c.barrier.ensures.exact.places ok w.card c.barrier.ensures.card in
-    let made = c.new-shelf.ensures.card in
-    let held = c.barrier.ensures.lender ∙ w.lender in
-    record {
-      value = search rules;
-      below = (
-        went.0.now,
-        subst (λ card. writes card b x went.0.now) (ap (λ x. x.now) made) went.1,
-        subst (λ card. flushes went.0.now card) (search rules) went.2,
-      );
-      present = λ _. subst (λ card. (meaning card).present b ≡ x) (search rules) done.present;
-      settled = λ _. subst (λ card. (y : List ℕ) → In y ((meaning card).doubt b) → y ≡ x) (search rules) done.settled;
-      lender = search rules;
-    }
+    let u = c.save.new.card in
+    λ ok.
+    let empty = saved_empties (λ k y z l. m.writes k.now y z l.now) (λ k. m.meaning k.now) (λ k l. m.flushes k.now l.now) _ u c.save.result b x ok c.save.ensures.card in
+    subst (λ card. (y : List ℕ) → In y ((m.meaning card).doubt b) → y ≡ x) (search rules) (durable_below (λ k. m.meaning k.now) u b x empty (c.save.ensures.durable ok)).settled
