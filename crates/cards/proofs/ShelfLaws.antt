@@ -1,5 +1,5 @@
 -- What a shelf makes of the card below, and what its writes, barriers and losses make of that.
-use Rattle.std.proofs.Common.{◌≡◌, ℕ, suc, ◌<◌, ◌≤◌, Bool, true, false, cond, eqb, ltb, ◌⊎◌, List, [], ◌∷◌, ◌++◌, length, get_or, set, is_some, is_ok, Some, None, Ok, Err, Option, Result, sym, refl, ap, ◌∙◌, subst, inl, inr, ⊎_elim, arith}
+use Rattle.std.proofs.Common.{◌≡◌, ℕ, suc, ◌<◌, ◌≤◌, Bool, true, false, cond, ◌==◌, nat_lt, ◌⊎◌, List, [], ◌∷◌, ◌++◌, length, get_or, slice_set, is_some, is_ok, Some, None, Ok, Err, Option, Result, sym, refl, ap, ◌∙◌, subst, inl, inr, ⊎_elim, arith}
 use Rattle.std.proofs.lemmas.Bool.{cases_eq, cond-true, cond-false, eq-eqb, ne_eqb, eqb-true, false≢true}
 use Rattle.cards.specs.declared.fault.Fault.{Fault}
 use Rattle.cards.specs.Answers.{answer, Written, MeantWrite, WroteEach}
@@ -28,45 +28,45 @@ present_parts false None i e = absurd (not_some e)
 -- ---- what the places lay on a block
 module _ {A : Type 0} (f : Content → A → A) where
   -- a place of block b, and one of another block
-  on : (hs : List Held) (h : Held) (b : ℕ) (x : A) → eqb h.0 b ≡ true → overlaid f (h ∷ hs) b x ≡ overlaid f hs b (f h.1 x)
-  on hs h b x e = ap (overlaid f hs b) (cond-true (eqb h.0 b) (f h.1 x) x e)
+  on : (hs : List Held) (h : Held) (b : ℕ) (x : A) → (h.0 == b) ≡ true → overlaid f (h ∷ hs) b x ≡ overlaid f hs b (f h.1 x)
+  on hs h b x e = ap (overlaid f hs b) (cond-true (h.0 == b) (f h.1 x) x e)
 
-  off : (hs : List Held) (h : Held) (b : ℕ) (x : A) → eqb h.0 b ≡ false → overlaid f (h ∷ hs) b x ≡ overlaid f hs b x
-  off hs h b x e = ap (overlaid f hs b) (cond-false (eqb h.0 b) (f h.1 x) x e)
+  off : (hs : List Held) (h : Held) (b : ℕ) (x : A) → (h.0 == b) ≡ false → overlaid f (h ∷ hs) b x ≡ overlaid f hs b x
+  off hs h b x e = ap (overlaid f hs b) (cond-false (h.0 == b) (f h.1 x) x e)
 
   overlaid_absent : (hs : List Held) (b : ℕ) (x : A) → place_of hs b ≡ None → overlaid f hs b x ≡ x
   overlaid_absent [] b x e = refl
   overlaid_absent (h ∷ hs) b x e =
-      let parts = absent_parts (eqb h.0 b) (place_of hs b) e in
+      let parts = absent_parts (h.0 == b) (place_of hs b) e in
       off hs h b x parts.0 ∙ overlaid_absent hs b x parts.1
 
   -- the block's place is the head, with none behind it
-  overlaid_head : (hs : List Held) (h : Held) (b : ℕ) (x : A) → eqb h.0 b ≡ true → place_of hs b ≡ None → overlaid f (h ∷ hs) b x ≡ f h.1 x
+  overlaid_head : (hs : List Held) (h : Held) (b : ℕ) (x : A) → (h.0 == b) ≡ true → place_of hs b ≡ None → overlaid f (h ∷ hs) b x ≡ f h.1 x
   overlaid_head hs h b x e none = on hs h b x e ∙ overlaid_absent hs b (f h.1 x) none
 
   -- a change of block b's place does not touch another block
-  overlaid_set_other : (hs : List Held) (b i k : ℕ) (c : Content) (x : A) → (k ≡ b → ⊥) → place_of hs b ≡ Some i → overlaid f (set hs i (b, c)) k x ≡ overlaid f hs k x
+  overlaid_set_other : (hs : List Held) (b i k : ℕ) (c : Content) (x : A) → (k ≡ b → ⊥) → place_of hs b ≡ Some i → overlaid f (slice_set hs i (b, c)) k x ≡ overlaid f hs k x
   overlaid_set_other [] b i k c x ne e = absurd (not_some e)
-  overlaid_set_other (h ∷ hs) b i k c x ne e = elim (present_parts (eqb h.0 b) (place_of hs b) i e) [
+  overlaid_set_other (h ∷ hs) b i k c x ne e = elim (present_parts (h.0 == b) (place_of hs b) i e) [
     | inl head ↦
-        ap (λ i. overlaid f (set (h ∷ hs) i (b, c)) k x) head.2
+        ap (λ i. overlaid f (slice_set (h ∷ hs) i (b, c)) k x) head.2
         ∙ off hs (b, c) k x (ne_eqb b k (λ e. ne (sym e)))
         ∙ sym (off hs h k x (ne_eqb h.0 k (λ e. ne (sym e ∙ eqb-true h.0 b head.0))))
     | inr behind ↦
-        ap (λ i. overlaid f (set (h ∷ hs) i (b, c)) k x) behind.2
+        ap (λ i. overlaid f (slice_set (h ∷ hs) i (b, c)) k x) behind.2
         ∙ overlaid_set_other hs b behind.0 k c _ ne behind.1
   ]
 
   -- one place more, of block b
-  overlaid_push : (hs : List Held) (h : Held) (b : ℕ) (x : A) → overlaid f (hs ++ h ∷ []) b x ≡ cond (eqb h.0 b) (f h.1 (overlaid f hs b x)) (overlaid f hs b x)
+  overlaid_push : (hs : List Held) (h : Held) (b : ℕ) (x : A) → overlaid f (hs ++ h ∷ []) b x ≡ cond (h.0 == b) (f h.1 (overlaid f hs b x)) (overlaid f hs b x)
   overlaid_push [] h b x = refl
   overlaid_push (g ∷ hs) h b x = overlaid_push hs h b _
 
   overlaid_more : (hs : List Held) (b : ℕ) (c : Content) (x : A) → overlaid f (hs ++ (b, c) ∷ []) b x ≡ f c (overlaid f hs b x)
-  overlaid_more hs b c x = overlaid_push hs (b, c) b x ∙ cond-true (eqb b b) _ _ (eq-eqb b b refl)
+  overlaid_more hs b c x = overlaid_push hs (b, c) b x ∙ cond-true (b == b) _ _ (eq-eqb b b refl)
 
   overlaid_more_other : (hs : List Held) (b k : ℕ) (c : Content) (x : A) → (k ≡ b → ⊥) → overlaid f (hs ++ (b, c) ∷ []) k x ≡ overlaid f hs k x
-  overlaid_more_other hs b k c x ne = overlaid_push hs (b, c) k x ∙ cond-false (eqb b k) _ _ (ne_eqb b k (λ e. ne (sym e)))
+  overlaid_more_other hs b k c x ne = overlaid_push hs (b, c) k x ∙ cond-false (b == k) _ _ (ne_eqb b k (λ e. ne (sym e)))
 
 -- the present content under the places
 abbrev over : List Held → ℕ → Content → Content
@@ -74,7 +74,7 @@ over hs b x = overlaid (λ c y. c) hs b x
 
 pub over_at : (hs : List Held) (b i : ℕ) (x : Content) → place_of hs b ≡ Some i → over hs b x ≡ (get_or hs i (0, [])).1
 over_at [] b i x e = absurd (not_some e)
-over_at (h ∷ hs) b i x e = elim (present_parts (eqb h.0 b) (place_of hs b) i e) [
+over_at (h ∷ hs) b i x e = elim (present_parts (h.0 == b) (place_of hs b) i e) [
   | inl head ↦ overlaid_head (λ c y. c) hs h b x head.0 head.1 ∙ ap (λ i. (get_or (h ∷ hs) i (0, [])).1) (sym head.2)
   | inr behind ↦ over_at hs b behind.0 _ behind.1 ∙ ap (λ i. (get_or (h ∷ hs) i (0, [])).1) (sym behind.2)
 ]
@@ -82,24 +82,24 @@ over_at (h ∷ hs) b i x e = elim (present_parts (eqb h.0 b) (place_of hs b) i e
 pub over_absent : (hs : List Held) (b : ℕ) (x : Content) → place_of hs b ≡ None → over hs b x ≡ x
 over_absent hs b x e = overlaid_absent (λ c y. c) hs b x e
 
-over_set : (hs : List Held) (b i : ℕ) (c x : Content) → place_of hs b ≡ Some i → over (set hs i (b, c)) b x ≡ c
+over_set : (hs : List Held) (b i : ℕ) (c x : Content) → place_of hs b ≡ Some i → over (slice_set hs i (b, c)) b x ≡ c
 over_set [] b i c x e = absurd (not_some e)
-over_set (h ∷ hs) b i c x e = elim (present_parts (eqb h.0 b) (place_of hs b) i e) [
-  | inl head ↦ ap (λ i. over (set (h ∷ hs) i (b, c)) b x) head.2 ∙ overlaid_head (λ c y. c) hs (b, c) b x (eq-eqb b b refl) head.1
-  | inr behind ↦ ap (λ i. over (set (h ∷ hs) i (b, c)) b x) behind.2 ∙ over_set hs b behind.0 c _ behind.1
+over_set (h ∷ hs) b i c x e = elim (present_parts (h.0 == b) (place_of hs b) i e) [
+  | inl head ↦ ap (λ i. over (slice_set (h ∷ hs) i (b, c)) b x) head.2 ∙ overlaid_head (λ c y. c) hs (b, c) b x (eq-eqb b b refl) head.1
+  | inr behind ↦ ap (λ i. over (slice_set (h ∷ hs) i (b, c)) b x) behind.2 ∙ over_set hs b behind.0 c _ behind.1
 ]
 
 -- the contents in doubt under the places
 abbrev doubts : List Held → ℕ → List Content → List Content
 doubts hs b d = overlaid ◌∷◌ hs b d
 
-doubts_set : (hs : List Held) (b i : ℕ) (c y : Content) (d : List Content) → place_of hs b ≡ Some i → In y (doubts (set hs i (b, c)) b d) → In y (c ∷ doubts hs b d)
+doubts_set : (hs : List Held) (b i : ℕ) (c y : Content) (d : List Content) → place_of hs b ≡ Some i → In y (doubts (slice_set hs i (b, c)) b d) → In y (c ∷ doubts hs b d)
 doubts_set [] b i c y d e h = absurd (not_some e)
-doubts_set (g ∷ hs) b i c y d e h = elim (present_parts (eqb g.0 b) (place_of hs b) i e) [
+doubts_set (g ∷ hs) b i c y d e h = elim (present_parts (g.0 == b) (place_of hs b) i e) [
   | inl head ↦
-      let new = ap (λ i. doubts (set (g ∷ hs) i (b, c)) b d) head.2 ∙ overlaid_head ◌∷◌ hs (b, c) b d (eq-eqb b b refl) head.1 in
+      let new = ap (λ i. doubts (slice_set (g ∷ hs) i (b, c)) b d) head.2 ∙ overlaid_head ◌∷◌ hs (b, c) b d (eq-eqb b b refl) head.1 in
       ⊎_elim inl (λ old. inr (subst (In y) (sym (overlaid_head ◌∷◌ hs g b d head.0 head.1)) (inr old))) (subst (In y) new h)
-  | inr behind ↦ doubts_set hs b behind.0 c y _ behind.1 (subst (In y) (ap (λ i. doubts (set (g ∷ hs) i (b, c)) b d) behind.2) h)
+  | inr behind ↦ doubts_set hs b behind.0 c y _ behind.1 (subst (In y) (ap (λ i. doubts (slice_set (g ∷ hs) i (b, c)) b d) behind.2) h)
 ]
 
 cond_mono : (t : Bool) (y z : Content) (d e : List Content) → (In y d → In y e) → In y (cond t (z ∷ d) d) → In y (cond t (z ∷ e) e)
@@ -108,7 +108,7 @@ cond_mono false y z d e f h = f h
 
 doubts_mono : (hs : List Held) (b : ℕ) (y : Content) (d e : List Content) → (In y d → In y e) → In y (doubts hs b d) → In y (doubts hs b e)
 doubts_mono [] b y d e f h = f h
-doubts_mono (g ∷ hs) b y d e f h = doubts_mono hs b y _ _ (cond_mono (eqb g.0 b) y g.1 d e f) h
+doubts_mono (g ∷ hs) b y d e f h = doubts_mono hs b y _ _ (cond_mono (g.0 == b) y g.1 d e f) h
 
 cond_more : (t : Bool) (y z : Content) (d : List Content) → In y d → In y (cond t (z ∷ d) d)
 cond_more true y z d h = inr h
@@ -116,10 +116,10 @@ cond_more false y z d h = h
 
 doubts_more : (hs : List Held) (b : ℕ) (y : Content) (d : List Content) → In y d → In y (doubts hs b d)
 doubts_more [] b y d h = h
-doubts_more (g ∷ hs) b y d h = doubts_more hs b y _ (cond_more (eqb g.0 b) y g.1 d h)
+doubts_more (g ∷ hs) b y d h = doubts_more hs b y _ (cond_more (g.0 == b) y g.1 d h)
 
 -- ---- a place changed, and one place more
-replaced : (m : Meaning) (hs : List Held) (b i : ℕ) (c : Content) → place_of hs b ≡ Some i → Wrote (shelved m hs) b c (shelved m (set hs i (b, c)))
+replaced : (m : Meaning) (hs : List Held) (b i : ℕ) (c : Content) → place_of hs b ≡ Some i → Wrote (shelved m hs) b c (shelved m (slice_set hs i (b, c)))
 replaced m hs b i c e = record {
   size = refl;
   here = over_set hs b i c (m.present b) e;
@@ -178,7 +178,7 @@ one_narrowed m n h (Ok u) whole e w = record {
 }
 one_narrowed m n h (Err f) whole e is =
     let past : m.size ≤ h.0 = refused_past m.size h.0 (length h.1) f whole e in
-    let none : (b : ℕ) → b < m.size → eqb h.0 b ≡ false = λ b lt. ne_eqb h.0 b (λ is. omega arith) in
+    let none : (b : ℕ) → b < m.size → (h.0 == b) ≡ false = λ b lt. ne_eqb h.0 b (λ is. omega arith) in
     narrowed_trans (shelved m (h ∷ [])) m n
     (record {
       size = refl;
@@ -213,9 +213,9 @@ written_below_narrowed false ps m n w = narrowed_all ps m n w
 
 wrote_at : (o : Option ℕ) (ps : List Held) (m n : Meaning) (b : ℕ) (c : Content) → place_of (held_of ps) b ≡ o → b < m.size → WroteEach MeantWrite (written_below_at o (held_of ps)) m n
     → Wrote (shelved m (held_of ps)) b c (shelved n (stored_at o (held_of ps) b c))
-wrote_at (Some i) ps m n b c e lt is = subst (λ k. Wrote (shelved m (held_of ps)) b c (shelved k (set (held_of ps) i (b, c)))) (sym is) (replaced m (held_of ps) b i c e)
+wrote_at (Some i) ps m n b c e lt is = subst (λ k. Wrote (shelved m (held_of ps)) b c (shelved k (slice_set (held_of ps) i (b, c)))) (sym is) (replaced m (held_of ps) b i c e)
 wrote_at None ps m n b c e lt w =
-    let room = ltb (length (held_of ps)) 4 in
+    let room = nat_lt (length (held_of ps)) 4 in
     narrowed_wrote _ (shelved n (cond room (held_of ps) [])) _ b c lt (written_below_narrowed room ps m n w) (added n (cond room (held_of ps) []) b c)
 
 pub shelf_wrote : (ps : List Held) (m n : Meaning) (hs : List Held) (b : ℕ) (c : Content) → b < m.size → WroteEach MeantWrite (written_below (held_of ps) b) m n → hs ≡ stored (held_of ps) b c

@@ -1,5 +1,5 @@
 -- Writes, barriers and losses of the write-back card.
-use Rattle.std.proofs.Common.{◌≡◌, ℕ, zero, suc, ◌+◌, ◌-◌, ◌*◌, ◌/◌, ◌%◌, ◌^◌, ◌<◌, ◌≤◌, Bool, true, false, cond, ◌&&◌, eqb, ◌⊎◌, List, length, drop, is_ok, Ok, sym, refl, ap, ◌∙◌, subst, inl, inr, ⊎_elim, arith, below_more}
+use Rattle.std.proofs.Common.{◌≡◌, ℕ, zero, suc, ◌+◌, ◌-◌, ◌*◌, ◌/◌, ◌%◌, ◌^◌, ◌<◌, ◌≤◌, Bool, true, false, cond, ◌&&◌, ◌==◌, ◌⊎◌, List, length, drop, is_ok, Ok, sym, refl, ap, ◌∙◌, subst, inl, inr, ⊎_elim, arith, below_more}
 use Rattle.std.proofs.lemmas.Bool.{eq-eqb, cond-true, cond-false}
 use Rattle.std.proofs.lemmas.Bool.Decides.{Decides-below_and, Decides-eqb}
 use Rattle.cards.specs.Answers.{answer}
@@ -136,7 +136,7 @@ back_lost pattern xs ys s = record {
 -- ---- a barrier is a loss whose pattern has every bit set
 bits_set : ℕ → Bool
 bits_set zero = true
-bits_set (suc k) = eqb ((2 ^ 64 - 1) / 2 ^ k % 2) 1 && bits_set k
+bits_set (suc k) = ((2 ^ 64 - 1) / 2 ^ k % 2 == 1) && bits_set k
 
 all_set : (k : ℕ) → k < 64 → (2 ^ 64 - 1) / 2 ^ k % 2 ≡ 1
 unfolding bits_set

@@ -1,5 +1,5 @@
 -- What a card answers to a read or a write, and what writes leave.
-use Rattle.std.specs.Prelude.{◌≡◌, ℕ, cond, List, [], ◌∷◌, length, is_ok, Ok, Err, MatchBool, Result, ◌==◌, nat_lt}
+use Rattle.std.specs.Prelude.{◌≡◌, ℕ, if◌then◌else◌, List, [], ◌∷◌, length, is_ok, Ok, Err, MatchBool, Result, ◌==◌, nat_lt}
 use Rattle.cards.specs.declared.fault.Layer.TheVariants.{Card}
 use Rattle.cards.specs.declared.fault.Fault.{Fault}
 use Rattle.cards.specs.declared.fault.Fault.TheVariants.{BufferLength, CardBlock}
@@ -8,7 +8,7 @@ use Rattle.cards.specs.Meanings.{Content, Meaning, Wrote}
 
 -- a card of the given size, at block b with a buffer of n bytes: first the buffer is tested, then the block
 abbrev pub answer : ℕ → ℕ → ℕ → Result (Unit {0}) Fault
-answer size b n = cond (n == 512) (cond (nat_lt b size) (Ok tt) (Err (CardBlock b))) (Err (BufferLength Card n))
+answer size b n = if n == 512 then (if nat_lt b size then Ok tt else Err (CardBlock b)) else Err (BufferLength Card n)
 
 -- a write of c to block b that was answered by r turned m into n; where it was refused nothing changed
 abbrev pub Written : Result (Unit {0}) Fault → Meaning → ℕ → Content → Meaning → Type 0

@@ -1,5 +1,5 @@
 -- What a shelf holds, and what it means before its card.
-use Rattle.std.specs.Prelude.{◌≡◌, ℕ, cond, List, [], map, length, is_ok}
+use Rattle.std.specs.Prelude.{◌≡◌, ℕ, if◌then◌else◌, List, [], map, length, is_ok}
 use Rattle.cards.specs.Answers.{answer, WroteEach}
 use Rattle.cards.specs.Blocks.{content}
 use Rattle.cards.specs.Meanings.{Content, Meaning}
@@ -24,8 +24,8 @@ shelf_of meaning s = shelved (meaning s.card) (on_shelf s)
 -- What a write of x to block b, a barrier and a loss of power make of a shelf, by what its card means and how its card is
 -- written to, flushed and cut off.
 pub record ShelfWrites {C : Type 0} (meaning : C → Meaning) (writes : C → ℕ → Content → C → Type 0) (s : Shelf C) (b : ℕ) (x : Content) (t : Shelf C) : Type 0 where
-  pub places : on_shelf t ≡ cond (is_ok (answer (meaning s.card).size b (length x))) (stored (on_shelf s) b x) (on_shelf s)
-  pub below : WroteEach writes (cond (is_ok (answer (meaning s.card).size b (length x))) (written_below (on_shelf s) b) []) s.card t.card
+  pub places : on_shelf t ≡ (if is_ok (answer (meaning s.card).size b (length x)) then stored (on_shelf s) b x else on_shelf s)
+  pub below : WroteEach writes (if is_ok (answer (meaning s.card).size b (length x)) then written_below (on_shelf s) b else []) s.card t.card
 
 pub record ShelfFlushes {C : Type 0} (writes : C → ℕ → Content → C → Type 0) (flushes : C → C → Type 0) (s t : Shelf C) : Type 0 where
   pub places : on_shelf t ≡ []

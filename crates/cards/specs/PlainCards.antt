@@ -1,5 +1,5 @@
 -- The plain card over lent bytes: block b starts at byte b * 512, and only present contents are in doubt.
-use Rattle.std.specs.Prelude.{ℕ, cond, List, [], ◌∷◌, length, is_ok}
+use Rattle.std.specs.Prelude.{ℕ, if◌then◌else◌, List, [], ◌∷◌, length, is_ok}
 use Rattle.cards.specs.Answers.{answer}
 use Rattle.cards.specs.Blocks.{shown_blocks, block_at, put_block}
 use Rattle.cards.specs.Meanings.{Content, Meaning}
@@ -13,4 +13,4 @@ plain xs = record {
 
 -- the bytes after a write of c to block b: the block is c, and every other byte is as it was
 abbrev pub plain_write : List ℕ → ℕ → Content → List ℕ
-plain_write xs b c = cond (is_ok (answer (plain xs).size b (length c))) (put_block xs b c) xs
+plain_write xs b c = if is_ok (answer (plain xs).size b (length c)) then put_block xs b c else xs

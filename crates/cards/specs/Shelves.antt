@@ -1,6 +1,6 @@
 -- The shelf: a few writes held back before a card. It has four places; a place holds a block number and a content. A shelf
 -- never has two places of one block, but the definitions do not lean on that: where there were two, the later one counts.
-use Rattle.std.specs.Prelude.{ℕ, suc, Bool, true, false, cond, List, [], ◌∷◌, ◌++◌, length, Some, None, Option, ◌==◌, nat_lt, slice_set}
+use Rattle.std.specs.Prelude.{ℕ, suc, Bool, true, false, if◌then◌else◌, List, [], ◌∷◌, ◌++◌, length, Some, None, Option, ◌==◌, nat_lt, slice_set}
 use Rattle.cards.specs.Meanings.{Content, Meaning}
 
 -- what a place in use holds
@@ -10,7 +10,7 @@ Held = ℕ × Content
 -- x, with the contents that the places hold of block b added by f, one after another in place order
 abbrev pub overlaid : {A : Type 0} → (Content → A → A) → List Held → ℕ → A → A
 overlaid f [] b x = x
-overlaid f (h ∷ hs) b x = overlaid f hs b (cond (h.0 == b) (f h.1 x) x)
+overlaid f (h ∷ hs) b x = overlaid f hs b (if h.0 == b then f h.1 x else x)
 
 -- A shelf that holds hs before a card that means m. A block on the shelf is present with its place's bytes, and its doubt
 -- is the doubt below with those bytes added.
@@ -35,10 +35,10 @@ place_of (h ∷ hs) b = place_from (h.0 == b) (place_of hs b)
 -- Room for one block more: a shelf with four blocks on it is emptied, and they are written below. What stays on the
 -- shelf, and what goes below.
 abbrev pub stays : List Held → List Held
-stays hs = cond (nat_lt (length hs) 4) hs []
+stays hs = if nat_lt (length hs) 4 then hs else []
 
 abbrev pub goes : List Held → List Held
-goes hs = cond (nat_lt (length hs) 4) [] hs
+goes hs = if nat_lt (length hs) 4 then [] else hs
 
 -- what the places hold after a write of c to block b: it replaces the block's place, or takes the next empty one
 abbrev pub stored_at : Option ℕ → List Held → ℕ → Content → List Held

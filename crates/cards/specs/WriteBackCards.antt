@@ -1,6 +1,6 @@
 -- The write-back card over lent bytes. Of n blocks, block b has its kept copy at place b and its fresh copy at place
 -- n + b of the bytes. The fresh copy is present, and both are in doubt.
-use Rattle.std.specs.Prelude.{◌≡◌, ℕ, ◌+◌, ◌*◌, ◌/◌, ◌%◌, ◌^◌, ◌<◌, Bool, cond, List, [], ◌∷◌, length, drop, is_ok, ◌==◌}
+use Rattle.std.specs.Prelude.{◌≡◌, ℕ, ◌+◌, ◌*◌, ◌/◌, ◌%◌, ◌^◌, ◌<◌, Bool, if◌then◌else◌, List, [], ◌∷◌, length, drop, is_ok, ◌==◌}
 use Rattle.cards.specs.Answers.{answer}
 use Rattle.cards.specs.Blocks.{shown_blocks, block_at, put_block}
 use Rattle.cards.specs.Meanings.{Content, Meaning}
@@ -24,7 +24,7 @@ write_back xs = record {
 
 -- the bytes after a write of c to block b: the fresh copy is c, and every other byte is as it was
 abbrev pub back_write : List ℕ → ℕ → Content → List ℕ
-back_write xs b c = cond (is_ok (answer (pairs xs) b (length c))) (put_block xs (pairs xs + b) c) xs
+back_write xs b c = if is_ok (answer (pairs xs) b (length c)) then put_block xs (pairs xs + b) c else xs
 
 -- whether a loss of power leaves block b its fresh copy: bit b mod 64 of the pattern, bit 0 the lowest
 abbrev pub fresh_stays : ℕ → ℕ → Bool
@@ -32,7 +32,7 @@ fresh_stays pattern b = pattern / 2 ^ (b % 64) % 2 == 1
 
 -- the content that a loss of power leaves in block b
 abbrev pub after_loss : ℕ → List ℕ → ℕ → Content
-after_loss pattern xs b = cond (fresh_stays pattern b) (fresh xs b) (kept xs b)
+after_loss pattern xs b = if fresh_stays pattern b then fresh xs b else kept xs b
 
 -- xs became ys: both copies of each block b now hold f b, and the bytes past the copies are as they were
 pub record Settled (f : ℕ → Content) (xs ys : List ℕ) : Type 0 where

@@ -30,6 +30,9 @@ pub(crate) fn count(len: usize, each: usize) -> usize
     (len / each).min(MOST_BLOCKS)
 }
 
+// That block p lies in the bytes ties a number to a slice, as an index does; so each of the three functions below asks for
+// it, and no type keeps it.
+
 // The block at place p.
 pub(crate) fn block_at(bytes: &[u8], p: usize) -> &[u8]
     requires { p * 512 + 512 ≤ length bytes.now }

@@ -37,7 +37,8 @@ pub trait Card {
         ensures value { result ≡ answer (meaning self.now).size b (length buffer.old) }
         ensures buffer { buffer.new ≡ (if is_ok result then (meaning self.now).present b else buffer.old) };
 
-    // Makes the bytes the present content of block b.
+    // Makes the bytes the present content of block b. That the lenders stay ties the card after the call to the card before it,
+    // so it is a clause here and of whatever passes the call on, and in no type.
     fn write(&mut self, b: usize, bytes: &[u8]) -> Result<(), Fault>
         ensures value { result ≡ answer (meaning self.old).size b (length bytes.now) }
         ensures card { Written result (meaning self.old) b bytes.now (meaning self.new) }

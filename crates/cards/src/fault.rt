@@ -3,6 +3,7 @@
 ghost use Rattle.std.specs.Prelude.{◌≡◌, Some};
 ghost use Rattle.cards.specs.Faults.{extent_word, number_of, layer_of, layer_number, places_of, line_of};
 
+use std::error::Error;
 use std::fmt;
 
 // The layer that refuses: cards below, tables in the middle, the volume on top.
@@ -66,7 +67,7 @@ impl Extent {
 }
 
 impl Fault {
-    // Each refusal has a number of its own.
+    // Each refusal has a number of its own. Written out, since an enum whose cases have fields takes no discriminants.
     pub fn number(&self) -> u8
         ensures { result ≡ number_of self.now }
     {
@@ -120,6 +121,8 @@ impl Fault {
         }
     }
 }
+
+impl Error for Fault {}
 
 // The word `refused`, then number, layer and places, as in `refused 2 1 48 0`.
 impl fmt::Display for Fault {

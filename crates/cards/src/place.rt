@@ -27,7 +27,8 @@ impl Place {
     }
 }
 
-// The four places, of which the first `used` are in use.
+// The four places, of which the first `used` are in use. An array with a count, and no vector: a shelf has four places of
+// fixed memory, and to forget them is to set the count to zero.
 #[derive(Drop)]
 pub(crate) struct Places {
     all: [Place; PLACES],

@@ -14,7 +14,8 @@ use crate::fault::Fault;
 // The bytes of a block's two copies.
 const PAIR_SIZE: usize = 2 * BLOCK_SIZE;
 
-// The pattern under which every fresh copy stays.
+// The pattern under which every fresh copy stays. A barrier is a loss under it: with a closure for the pattern, what is left
+// would be told by calls, and not by bits.
 const ALL_FRESH: u64 = u64::MAX;
 
 #[derive(Drop)]
@@ -34,6 +35,7 @@ fn fresh_stays(pattern: u64, b: usize) -> bool
 fn settle(bytes: &mut [u8], pattern: u64)
     ensures { Settled (after_loss pattern bytes.old) bytes.old bytes.new }
 {
+    // By number: once a loop has written to the chunks of a slice, nothing is known of what these hold.
     let n = count(bytes.len(), PAIR_SIZE);
     for b in 0..n {
         if fresh_stays(pattern, b) {
