@@ -1,8 +1,13 @@
--- How a standing is written, as in `round 2, Anna 1.5`.
+-- How points and a standing are written, as in `1.5` and `round 2, Anna 1.5`.
 use Rattle.std.specs.Prelude.{ℕ, suc, ◌*◌, ◌/◌, ◌%◌, List, [], ◌∷◌, ◌++◌, codes, decimal}
 use Rattle.cards.specs.Blocks.{content}
 use Rattle.cards.specs.Meanings.{Content}
+use Rattle.demo.specs.declared.standing.Points.{Points}
 use Rattle.demo.specs.declared.standing.Standing.{Standing}
+
+-- the whole points, and a half as five tenths
+abbrev pub points_text : Points → List ℕ
+points_text p = decimal (p.halves / 2) ++ (codes "." ++ decimal (p.halves % 2 * 5))
 
 abbrev pub standing_text : Standing → List ℕ
 standing_text s =
@@ -11,9 +16,7 @@ standing_text s =
     ++ (codes ", "
     ++ (s.player.now
     ++ (codes " "
-    ++ (decimal (s.halves / 2)
-    ++ (codes "."
-    ++ decimal (s.halves % 2 * 5)))))))
+    ++ points_text s.points))))
 
 -- the writes of a round: its first line to block k, and the others to the blocks after it
 abbrev pub writes_from : ℕ → List Standing → List (ℕ × Content)

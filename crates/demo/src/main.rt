@@ -14,7 +14,7 @@ mod table;
 use cards::card::{BLOCK_SIZE, Card};
 use cards::shelf::Shelf;
 use cards::write_back::WriteBackCard;
-use standing::Standing;
+use standing::{Points, Standing};
 use std::io;
 use table::{save, text_of};
 
@@ -22,32 +22,32 @@ const ROUND_1: [Standing; 6] = [
     Standing {
         player: "Anna",
         round: 1,
-        halves: 2,
+        points: Points { halves: 2 },
     },
     Standing {
         player: "Boris",
         round: 1,
-        halves: 0,
+        points: Points { halves: 0 },
     },
     Standing {
         player: "Clara",
         round: 1,
-        halves: 1,
+        points: Points { halves: 1 },
     },
     Standing {
         player: "Dmitri",
         round: 1,
-        halves: 1,
+        points: Points { halves: 1 },
     },
     Standing {
         player: "Elena",
         round: 1,
-        halves: 0,
+        points: Points { halves: 0 },
     },
     Standing {
         player: "Farid",
         round: 1,
-        halves: 2,
+        points: Points { halves: 2 },
     },
 ];
 
@@ -55,32 +55,32 @@ const ROUND_2: [Standing; 6] = [
     Standing {
         player: "Anna",
         round: 2,
-        halves: 3,
+        points: Points { halves: 3 },
     },
     Standing {
         player: "Boris",
         round: 2,
-        halves: 0,
+        points: Points { halves: 0 },
     },
     Standing {
         player: "Clara",
         round: 2,
-        halves: 3,
+        points: Points { halves: 3 },
     },
     Standing {
         player: "Dmitri",
         round: 2,
-        halves: 1,
+        points: Points { halves: 1 },
     },
     Standing {
         player: "Elena",
         round: 2,
-        halves: 2,
+        points: Points { halves: 2 },
     },
     Standing {
         player: "Farid",
         round: 2,
-        halves: 3,
+        points: Points { halves: 3 },
     },
 ];
 
@@ -88,7 +88,7 @@ const ROUND_2: [Standing; 6] = [
 const LATE_ENTRY: Standing = Standing {
     player: "Galina",
     round: 1,
-    halves: 0,
+    points: Points { halves: 0 },
 };
 
 // Bits 0, 2, 4 and 5 are set.
@@ -120,10 +120,7 @@ fn show<C: Card>(rt: &HostRuntime, card: &C) -> io::Result<()> {
     for b in 0..card.blocks() {
         let mut buffer = [0u8; BLOCK_SIZE];
         match card.read(b, &mut buffer) {
-            Ok(()) => {
-                let text = text_of(&buffer);
-                println!(rt; "block {b} holds: {text}")?;
-            }
+            Ok(()) => println!(rt; "block {b} holds: {}", text_of(&buffer))?,
             Err(fault) => println!(rt; "{fault}")?,
         }
     }
