@@ -13,12 +13,14 @@ use tables::entry::{Count, Entry, PhysicalBlock};
 use tables::layout::Shape;
 use tables::stored::load_entries;
 
+const LOGICAL: usize = 3;
+
 const SHAPE: Shape = Shape {
-    logical: 3,
+    logical: LOGICAL as u16,
     physical: 2,
 };
 
-const LINKS: [Option<PhysicalBlock>; 3] = [
+const LINKS: [Option<PhysicalBlock>; LOGICAL] = [
     Some(PhysicalBlock { number: 0 }),
     None,
     Some(PhysicalBlock { number: 1 }),
@@ -40,7 +42,7 @@ fn show_links(rt: &HostRuntime, links: &[Option<PhysicalBlock>]) -> io::Result<(
 
 // Packs the links to a block of the card, over what it holds, and unpacks it after a loss of power.
 fn keep_links<C: Card>(rt: &HostRuntime, card: &mut C, block: usize) -> io::Result<()> {
-    let mut links = [None; 3];
+    let mut links = [None; LOGICAL];
     match save_and_lose(card, block, SHAPE.physical, &LINKS, 0, &mut links) {
         Ok(()) => {
             println!(rt;
@@ -54,7 +56,7 @@ fn keep_links<C: Card>(rt: &HostRuntime, card: &mut C, block: usize) -> io::Resu
 
 // Tries to unpack a block of the card as counts.
 fn try_counts<C: Card>(rt: &HostRuntime, card: &C, block: usize) -> io::Result<()> {
-    let mut counts = [Count { number: 0 }; 3];
+    let mut counts = [Count { number: 0 }; LOGICAL];
     match load_entries(card, block, SHAPE.physical, &mut counts) {
         Ok(()) => println!(rt; "card block {block} holds counts"),
         Err(fault) => println!(rt; "card block {block} taken for counts: {fault}"),
