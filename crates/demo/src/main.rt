@@ -18,6 +18,7 @@ use standing::{Points, Standing};
 use std::io;
 use table::{save, text_of};
 
+// Each standing names its round, since a line stands alone on its block.
 const ROUND_1: [Standing; 6] = [
     Standing {
         player: "Anna",
@@ -109,6 +110,7 @@ fn save_line<C: Card>(rt: &HostRuntime, card: &mut C, b: usize, line: &Standing)
 fn save_round<C: Card>(rt: &HostRuntime, card: &mut C, round: &[Standing]) -> io::Result<()>
     ensures { is_ok result ≡ true → WroteEach MeantWrite (writes_from 0 round.now) (C.Card.meaning card.old) (C.Card.meaning card.new) }
 {
+    // A `for`, since of a card that a closure changes item by item nothing would be known after the last.
     for (b, line) in round.iter().enumerate() {
         save_line(rt, card, b, line)?;
     }
@@ -117,6 +119,7 @@ fn save_round<C: Card>(rt: &HostRuntime, card: &mut C, round: &[Standing]) -> io
 
 // Reads every block, and prints the line that it holds.
 fn show<C: Card>(rt: &HostRuntime, card: &C) -> io::Result<()> {
+    // A card is no slice: its blocks are read by number.
     for b in 0..card.blocks() {
         let mut buffer = [0u8; BLOCK_SIZE];
         match card.read(b, &mut buffer) {

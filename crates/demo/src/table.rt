@@ -33,7 +33,7 @@ pub fn line_in(block: &[u8]) -> Option<&str>
     std::str::from_utf8(&block[..text_length(block)]).ok()
 }
 
-// The line of text in a block, or words that say that it is no text.
+// The line of text in a block, or words that say that it has none.
 pub fn text_of(block: &[u8]) -> &str
     ensures { (n : ℕ) × Ends block.now n × (IsUtf8 (take n block.now) → result.now ≡ take n block.now) × (¬ IsUtf8 (take n block.now) → result.now ≡ codes "no text") }
 {

@@ -13,6 +13,7 @@ use tables::entry::{Count, Entry, PhysicalBlock};
 use tables::layout::Shape;
 use tables::stored::load_entries;
 
+// How many logical blocks the volume has, and so how many links.
 const LOGICAL: usize = 3;
 
 const SHAPE: Shape = Shape {

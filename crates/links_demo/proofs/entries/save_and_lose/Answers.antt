@@ -1,4 +1,4 @@
-use Rattle.std.proofs.Common.{◌≡◌, ℕ, ◌^◌, ◌<◌, cond, map, is_ok, Some, Ok, sym, refl, ap, ◌∙◌, ap₂}
+use Rattle.std.proofs.Common.{◌≡◌, ℕ, ◌^◌, ◌<◌, cond, map, is_ok, Some, Ok, sym, refl, ◌∙◌, ap₂}
 use Rattle.std.proofs.ByRecursion.{All-weaker}
 use Rattle.std.specs.Result.{result_and}
 use Rattle.cards.specs.Answers.{answer}
