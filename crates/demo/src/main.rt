@@ -110,7 +110,7 @@ fn save_line<C: Card>(rt: &HostRuntime, card: &mut C, b: usize, line: &Standing)
 fn save_round<C: Card>(rt: &HostRuntime, card: &mut C, round: &[Standing]) -> io::Result<()>
     ensures { is_ok result ≡ true → WroteEach MeantWrite (writes_from 0 round.now) (C.Card.meaning card.old) (C.Card.meaning card.new) }
 {
-    // A `for`, since of a card that a closure changes item by item nothing would be known after the last.
+    // A `for` and no chain: a contract says nothing of a card that a closure of the chain writes to.
     for (b, line) in round.iter().enumerate() {
         save_line(rt, card, b, line)?;
     }
