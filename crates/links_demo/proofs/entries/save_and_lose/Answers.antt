@@ -1,11 +1,11 @@
-use Rattle.std.proofs.Common.{◌≡◌, ℕ, ◌^◌, ◌<◌, cond, map, is_ok, Some, Ok, sym, refl, ◌∙◌, ap₂}
+use Rattle.std.proofs.Common.{◌≡◌, ℕ, ◌^◌, ◌<◌, cond, map, length, is_ok, Some, Ok, sym, refl, ◌∙◌, ap₂}
 use Rattle.std.proofs.ByRecursion.{All-weaker}
 use Rattle.std.specs.Result.{result_and}
 use Rattle.cards.specs.Answers.{answer}
 use Rattle.cards.specs.Meanings.{Content, Meaning, Wrote, Flushed, Lost}
 use Rattle.cards.proofs.Admitted.{admitted}
 use Rattle.cards.proofs.Outlives.{outlives}
-use Rattle.tables.specs.Tables.{block_of, unless_bad}
+use Rattle.tables.specs.Tables.{block_of, unless_bad, unpack_answer, unpacked}
 use Rattle.tables.proofs.RoundTrips.{block_unpacks}
 use Rattle.links_demo.proofs.entries.save_and_lose.Goals as goal
 
@@ -16,12 +16,14 @@ kept m n o k b c e w f l = (l.size ∙ f.size ∙ w.size, outlives m n o k b c (
 pub returns-clause-value : goal.returns-clause-value
 returns-clause-value g c =
     let h = kept _ _ _ _ _ _ c.in_ok-save_entries.ensures.value c.in_ok-save_entries.ensures.card c.barrier.ensures.card c.lose_power.ensures.card in
-    rw h.0 at rw h.1 at c.load_entries.ensures.value
+    c.load_entries.ensures.value
+    ∙ ap₂ (λ s x. result_and (answer s c.args.block 512) (unpack_answer c.args.block (g.E.Entry.reads c.args.physical) (length c.args.out.now) x)) h.0 h.1
 
 pub returns-clause-entries : goal.returns-clause-entries
 returns-clause-entries g c =
     let h = kept _ _ _ _ _ _ c.in_ok-save_entries.ensures.value c.in_ok-save_entries.ensures.card c.barrier.ensures.card c.lose_power.ensures.card in
-    rw h.0 at rw h.1 at c.load_entries.ensures.entries
+    c.load_entries.ensures.entries
+    ∙ ap₂ (λ s x. cond (is_ok (answer s c.args.block 512)) (unpacked (g.E.Entry.reads c.args.physical) x c.args.out.now) c.args.out.now) h.0 h.1
 
 pub returns-clause-back : goal.returns-clause-back
 returns-clause-back g c = λ in' few valid same.
