@@ -1,15 +1,13 @@
 -- A write through an empty shelf, and a barrier: what reaches the card below, and what that card then means.
-use Rattle.std.proofs.Common.{◌≡◌, ℕ, ◌<◌, true, cond, List, [], ◌∷◌, length, is_ok, Ok, Err, MatchBool, Result, sym, ap, ◌∙◌, subst, arith}
+use Rattle.std.proofs.Common.{◌≡◌, ℕ, ◌<◌, true, [], length, is_ok, Ok, MatchBool, Result, ◌∙◌, subst, arith}
 use Rattle.std.proofs.lemmas.Bool.Decides.{nat_tests}
 use Rattle.cards.specs.declared.fault.Fault.{Fault}
 use Rattle.cards.specs.declared.shelf.Shelf.{Shelf}
-use Rattle.cards.specs.Answers.{answer, Saved, WroteEach}
-use Rattle.cards.specs.Meanings.{Content, Meaning, In, Wrote, Flushed}
+use Rattle.cards.specs.Answers.{answer, Saved}
+use Rattle.cards.specs.Meanings.{Content, Meaning, Wrote, Flushed}
 use Rattle.cards.specs.OnShelf.{on_shelf, shelf_of, ShelfWrites, ShelfFlushes}
 use Rattle.card_cases.specs.Durable.{Durable}
-use Rattle.card_cases.specs.SavedBytes.{SavedBytes}
-use Rattle.cards.specs.WriteBackCards.{fresh, back_write, Settled}
-use Rattle.cards.specs.Shelves.{Held, shelved, stored, written_below}
+use Rattle.cards.specs.Shelves.{shelved}
 
 -- ---- what the card then means
 pub durable : (m n o : Meaning) (b : ℕ) (c : Content) → Ok tt ≡ answer m.size b (length c) → Wrote m b c n → Flushed n o → Durable o b c

@@ -1,5 +1,5 @@
 -- What the places of a shelf hold, after each change of them.
-use Rattle.std.proofs.Common.{◌≡◌, ℕ, ◌+◌, ◌<◌, List, [], ◌∷◌, ◌++◌, length, get_or, take, slice_set, Some, None, Option, ◌==◌, refl, sym, ap, ◌∙◌}
+use Rattle.std.proofs.Common.{◌≡◌, ℕ, ◌+◌, ◌<◌, List, [], ◌∷◌, ◌++◌, length, get_or, take, slice_set, Some, None, ◌==◌, refl, sym, ap, ◌∙◌}
 use Rattle.std.proofs.lemmas.List.{take_more, length-map, map_push, map-set, get_or-map}
 use Rattle.cards.specs.Meanings.{Content}
 use Rattle.cards.specs.OnShelf.{held, held_of}

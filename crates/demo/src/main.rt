@@ -97,7 +97,7 @@ const PATTERN: u64 = 0x35;
 
 // Saves a line to block b, and says what came of it.
 fn save_line<C: Card>(rt: &HostRuntime, card: &mut C, b: usize, line: &Standing) -> io::Result<()>
-    ensures { is_ok result ≡ true → Written (answer (C.Card.meaning card.old).size b 512) (C.Card.meaning card.old) b (content (standing_text line.now)) (C.Card.meaning card.new) }
+    ensures { is_ok result ≡ true → Written (answer (C.meaning card.old).size b 512) (C.meaning card.old) b (content (standing_text line.now)) (C.meaning card.new) }
 {
     let text = line.to_string(rt.alloc())?;
     match save(card, b, text.as_str()) {
@@ -108,7 +108,7 @@ fn save_line<C: Card>(rt: &HostRuntime, card: &mut C, b: usize, line: &Standing)
 
 // Saves the lines of a round to blocks 0, 1 and on.
 fn save_round<C: Card>(rt: &HostRuntime, card: &mut C, round: &[Standing]) -> io::Result<()>
-    ensures { is_ok result ≡ true → WroteEach MeantWrite (writes_from 0 round.now) (C.Card.meaning card.old) (C.Card.meaning card.new) }
+    ensures { is_ok result ≡ true → WroteEach MeantWrite (writes_from 0 round.now) (C.meaning card.old) (C.meaning card.new) }
 {
     // A `for` and no chain: a contract says nothing of a card that a closure of the chain writes to.
     for (b, line) in round.iter().enumerate() {

@@ -10,8 +10,8 @@ use cards::fault::Fault;
 
 // Writes the text to block b.
 pub fn save<C: Card>(card: &mut C, b: usize, text: &str) -> Result<(), Fault>
-    ensures value { result ≡ answer (C.Card.meaning card.old).size b 512 }
-    ensures card { Written result (C.Card.meaning card.old) b (content text.now) (C.Card.meaning card.new) }
+    ensures value { result ≡ answer (C.meaning card.old).size b 512 }
+    ensures card { Written result (C.meaning card.old) b (content text.now) (C.meaning card.new) }
 {
     card.write(b, &content_of(text.as_bytes()))
 }

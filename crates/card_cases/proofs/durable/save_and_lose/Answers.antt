@@ -1,4 +1,4 @@
-use Rattle.std.proofs.Common.{◌≡◌, ◌<◌, cond, length, true, is_ok, refl, ap, ◌∙◌, arith}
+use Rattle.std.proofs.Common.{◌<◌, cond, length, true, is_ok, refl, ap, ◌∙◌, arith}
 use Rattle.cards.proofs.Admitted.{admitted}
 use Rattle.cards.proofs.Outlives.{when_true_is}
 use Rattle.card_cases.proofs.durable.save_and_lose.Goals as goal

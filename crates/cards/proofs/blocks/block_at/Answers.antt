@@ -1,5 +1,4 @@
 use Rattle.std.proofs.Common.{◌≡◌, ◌+◌, ◌-◌, ◌*◌, length, drop, take, ap, ◌∙◌, arith}
-use Rattle.cards.specs.Blocks.{block_at}
 use Rattle.cards.specs.SoundCards.{length-block_at}
 use Rattle.cards.proofs.blocks.block_at.Goals as goal
 

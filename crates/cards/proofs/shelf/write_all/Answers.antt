@@ -1,8 +1,5 @@
-use Rattle.std.proofs.Common.{◌≡◌, length, get_or, subst, rules}
-use Rattle.std.proofs.lemmas.List.{take_all}
-use Rattle.cards.specs.Answers.{CardWrite, WroteEach}
-use Rattle.cards.specs.OnShelf.{held_of}
-use Rattle.cards.specs.Places.{listed}
+use Rattle.std.proofs.Common.{◌≡◌, length, get_or, rules}
+use Rattle.cards.specs.Answers.{CardWrite}
 use Rattle.cards.proofs.BlockLaws.{content_is}
 use Rattle.cards.proofs.Sequences.{wrote_push}
 use Rattle.cards.proofs.PlacesSearch.{no_place}
@@ -19,8 +16,3 @@ loop-place-preserved g c =
     let whole : length p.bytes ≡ 512 = search rules in
     let written : one c.loop-place.card p.block p.bytes c.write.new.self = (w.exact, search rules, w.lender) in
     rw (held_more ps i c.loop-place-test.true) (wrote_push one _ _ _ _ _ c.loop-place.invariant (rw (content_is p.bytes whole) written))
-
-pub returns : goal.returns
-returns g c =
-    let one = CardWrite g.C.Card.meaning g.C.Card.lenders g.C.Card.writes in
-    subst (λ qs. WroteEach one (held_of (listed qs)) c.args.card.now c.loop-place.card) (take_all c.loop-place.place-index c.args.places.now c.loop-place-test.false) c.loop-place.invariant

@@ -1,11 +1,8 @@
 use Rattle.std.proofs.Common.{◌<◌, sym, ◌∙◌, arith}
 use Rattle.cards.specs.WriteBackCards.{pairs}
-use Rattle.cards.proofs.WriteBackLaws.{midway_none, midway_fresh, midway_kept, midway_all}
+use Rattle.cards.proofs.WriteBackLaws.{midway_fresh, midway_kept}
 use Rattle.cards.proofs.write_back.settle.Goals as goal
 use Rattle.cards.proofs.write_back.settle.Goals.{then-fresh_stays, else-fresh_stays}
-
-pub loop-b-init : goal.loop-b-init
-loop-b-init c = midway_none _ _
 
 pub loop-b-preserved : goal.loop-b-preserved
 loop-b-preserved c =
@@ -17,6 +14,3 @@ loop-b-preserved c =
       | then-fresh_stays w ↦ midway_fresh c.args.pattern xs ys _ b _ c.count-n.ensures lt c.loop-b.invariant (sym c.fresh_stays.ensures ∙ w.if-fresh_stays.true) (w.bytes-is ∙ w.copy_block.ensures)
       | else-fresh_stays w ↦ midway_kept c.args.pattern xs ys _ b _ c.count-n.ensures lt c.loop-b.invariant (sym c.fresh_stays.ensures ∙ w.if-fresh_stays.false) (w.bytes-is ∙ w.copy_block-else-fresh_stays.ensures)
     ]
-
-pub returns : goal.returns
-returns c = midway_all _ _ _ _ (omega arith) c.loop-b.invariant

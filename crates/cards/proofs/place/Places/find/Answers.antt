@@ -1,4 +1,4 @@
-use Rattle.std.proofs.Common.{sym, ap, ◌∙◌, rules}
+use Rattle.std.proofs.Common.{ap, ◌∙◌, rules}
 use Rattle.cards.specs.Shelves.{place_of}
 use Rattle.cards.proofs.PlacesSearch.{IsLastOf, last_is}
 use Rattle.cards.proofs.place.Places.find.Goals as goal
