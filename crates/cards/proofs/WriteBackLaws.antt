@@ -1,10 +1,10 @@
 -- Writes, barriers and losses of the write-back card.
-use Rattle.std.proofs.Common.{◌≡◌, ℕ, zero, suc, ◌+◌, ◌-◌, ◌*◌, ◌/◌, ◌%◌, ◌^◌, ◌<◌, ◌≤◌, Bool, true, false, cond, ◌&&◌, ◌==◌, ◌⊎◌, List, length, drop, is_ok, Ok, sym, refl, ap, ◌∙◌, subst, inl, inr, ⊎_elim, arith, below_more}
+use Rattle.std.proofs.Common.{◌≡◌, ℕ, zero, suc, ◌+◌, ◌-◌, ◌*◌, ◌/◌, ◌%◌, ◌^◌, ◌<◌, ◌≤◌, Bool, true, false, ◌&&◌, ◌==◌, ◌⊎◌, List, length, drop, is_ok, Ok, sym, refl, ap, ◌∙◌, subst, inl, inr, ⊎_elim, arith, below_more}
 use Rattle.std.proofs.lemmas.Bool.{eq-eqb, cond-true, cond-false}
 use Rattle.std.proofs.lemmas.Bool.Decides.{Decides-below_and, Decides-eqb}
 use Rattle.cards.specs.Answers.{answer}
 use Rattle.cards.specs.Blocks.{shown_blocks, block_at, put_block}
-use Rattle.cards.specs.Meanings.{Content, Wrote, Flushed, Lost, In}
+use Rattle.cards.specs.Meanings.{Content, Wrote, Flushed, In}
 use Rattle.cards.specs.SoundCards.{length-block_at}
 use Rattle.cards.specs.WriteBackCards.{pairs, kept, fresh, write_back, back_write, fresh_stays, after_loss, Settled}
 use Rattle.cards.proofs.BlockLaws.{block_at-put_block, block_at-put_block_other, drop-put_block, length-put_block}
@@ -46,14 +46,6 @@ pub record Midway (f : ℕ → Content) (xs ys : List ℕ) (b : ℕ) : Type 0 wh
   pub done : (k : ℕ) → k < b → (block_at ys k ≡ f k) × (block_at ys (pairs xs + k) ≡ f k)
   pub left : (k : ℕ) → b ≤ k → k < pairs xs → (block_at ys k ≡ kept xs k) × (block_at ys (pairs xs + k) ≡ fresh xs k)
   pub rest : drop (pairs xs * 1024) ys ≡ drop (pairs xs * 1024) xs
-
-pub midway_none : (f : ℕ → Content) (xs : List ℕ) → Midway f xs xs 0
-midway_none f xs = record {
-  size = refl;
-  done = λ k l. absurd (omega arith);
-  left = λ k l m. (refl, refl);
-  rest = refl;
-}
 
 -- the two places of block b, in the order in which one is copied over the other
 abbrev Copied : ℕ → ℕ → ℕ → ℕ → Type 0
@@ -103,15 +95,7 @@ module _ (pattern : ℕ) (xs ys zs : List ℕ) (b n : ℕ) (counted : n ≡ pair
       turned b (n + b) (inr (refl, ap (λ n. n + b) counted))
       ((mid.left b (omega arith) lt).0 ∙ sym (cond-false (fresh_stays pattern b) _ _ goes)) e
 
-pub midway_all : (f : ℕ → Content) (xs ys : List ℕ) (b : ℕ) → pairs xs ≤ b → Midway f xs ys b → Settled f xs ys
-midway_all f xs ys b all mid = record {
-  size = mid.size;
-  kept_is = λ k l. (mid.done k (omega arith)).0;
-  fresh_is = λ k l. fresh_at xs ys k mid.size ∙ (mid.done k (omega arith)).1;
-  rest = mid.rest;
-}
-
--- ---- a barrier and a loss
+-- ---- a barrier
 only : (f : ℕ → Content) (xs ys : List ℕ) → Settled f xs ys → (b : ℕ) (x : Content) → b < pairs xs → In x ((write_back ys).doubt b) → x ≡ fresh ys b
 only f xs ys s b x lt = ⊎_elim (λ is. is) (⊎_elim (λ is. is ∙ s.kept_is b lt ∙ sym (s.fresh_is b lt)) (λ none. absurd none))
 
@@ -120,17 +104,6 @@ back_flushed xs ys s = record {
   size = same_pairs xs ys s.size;
   present = λ b l. s.fresh_is b l;
   settled = only (fresh xs) xs ys s;
-}
-
-left_in : (r : Bool) (f k : Content) → (cond r f k ≡ f) ⊎ ((cond r f k ≡ k) ⊎ ⊥)
-left_in true f k = inl refl
-left_in false f k = inr (inl refl)
-
-pub back_lost : (pattern : ℕ) (xs ys : List ℕ) → Settled (after_loss pattern xs) xs ys → Lost (write_back xs) (write_back ys)
-back_lost pattern xs ys s = record {
-  size = same_pairs xs ys s.size;
-  present = λ b l. subst (λ x. In x ((write_back xs).doubt b)) (sym (s.fresh_is b l)) (left_in (fresh_stays pattern b) (fresh xs b) (kept xs b));
-  settled = only (after_loss pattern xs) xs ys s;
 }
 
 -- ---- a barrier is a loss whose pattern has every bit set
