@@ -71,6 +71,10 @@ module _ {E : Type 0} (read : ℕ → Option E) where
   pub begin : (ws : List ℕ) (old : List E) → Reached ws old 0 ws old
   begin ws old = record { as_many = refl; bad = refl; entries = refl }
 
+  -- The same, said of another number and of other words left, which are equal to these.
+  pub also : (ws : List ℕ) (old : List E) (j : ℕ) (xs : List ℕ) (out : List E) → Reached ws old j xs out → (k : ℕ) (left : List ℕ) → k ≡ j → xs ≡ left → Reached ws old k left out
+  also ws old j xs out r k left same words = subst (λ n. Reached ws old n left out) (sym same) (subst (λ ys. Reached ws old j ys out) words r)
+
   pub end : (ws : List ℕ) (old : List E) (k : ℕ) (out : List E) → Reached ws old k [] out → (first_bad read (length old) 0 ws ≡ None) × (out ≡ entries_after read ws old)
   end ws old k out r = (sym r.bad, sym (take-append-drop k out) ∙ r.entries)
 

@@ -1,11 +1,11 @@
 // A table block: the words of a run of entries, and zero words after them. One text for every kind of entry.
-ghost use Rattle.std.specs.Prelude.{◌≡◌, ℕ, ◌+◌, ◌*◌, ◌≤◌, [], ◌++◌, map, length, take, drop, Ok, slice_set};
+ghost use Rattle.std.specs.Prelude.{◌≡◌, ℕ, ◌+◌, ◌*◌, ◌≤◌, [], ◌++◌, map, length, take, drop, is_some, Ok, slice_set};
 ghost use Rattle.std.specs.List.{AllByRecursion};
 ghost use Rattle.tables.specs.Words.{words, bytes_of};
 ghost use Rattle.tables.specs.Tables.{block_of, good_word, unpack_answer, Judged, on_entry, unpacked, UnpacksTo};
 
 use crate::entry::Entry;
-use crate::word::{WORD_SIZE, Word, split_word};
+use crate::word::{WORD_SIZE, Word, Words};
 use cards::card::BLOCK_SIZE;
 use cards::fault::Fault;
 
@@ -43,21 +43,16 @@ pub fn pack_block<E: Entry>(entries: &[E]) -> [u8; BLOCK_SIZE]
     block
 }
 
-// Takes up word k: as entry k, or as a zero word after the last entry. Answers whether it is good.
-fn take_word<E: Entry + Copy>(word: Word, k: usize, physical: u16, out: &mut [E]) -> bool
-    ensures value { result ≡ good_word (E.Entry.reads physical) (length out.old) k word.bits }
+// Takes up word k: as entry k, or as a zero word after the last entry. None if it is bad.
+fn take_word<E: Entry + Copy>(word: Word, k: usize, physical: u16, out: &mut [E]) -> Option<()>
+    ensures value { is_some result ≡ good_word (E.Entry.reads physical) (length out.old) k word.bits }
     ensures entries { out.new ≡ on_entry (E.Entry.reads physical word.bits) (slice_set out.old k) out.old }
 {
     if k >= out.len() {
-        return word.is_blank();
+        return word.is_blank().then_some(());
     }
-    match E::unpack(word, physical) {
-        Some(entry) => {
-            out[k] = entry;
-            true
-        }
-        None => false,
-    }
+    out[k] = E::unpack(word, physical)?;
+    Some(())
 }
 
 // Unpacks a block, which was read from this block of the card, to the entries of a volume with `physical` physical blocks.
@@ -74,17 +69,11 @@ pub fn unpack_block<E: Entry + Copy>(
     ensures first { Judged card_block (E.Entry.reads physical) (length out.old) (words bytes.now) result }
     ensures back { result ≡ Ok tt → length out.old ≤ 128 → AllByRecursion (E.Entry.valid physical) out.new × (bytes.now ≡ block_of (map E.Entry.packed out.new)) }
 {
-    let mut left: &[u8] = bytes;
-    let mut k = 0;
-    while let Some((word, rest)) = split_word(left) {
-        if !take_word(word, k, physical, out) {
-            return Err(Fault::BadWord {
-                block: card_block,
-                word: k,
-            });
-        }
-        left = rest;
-        k += 1;
+    for (k, word) in (Words { left: bytes }).enumerate() {
+        take_word(word, k, physical, out).ok_or(Fault::BadWord {
+            block: card_block,
+            word: k,
+        })?;
     }
     Ok(())
 }

@@ -1,15 +1,16 @@
 // A word of a table: 32 bits, of which the top two are its kind and the low thirty its value. The zero word is blank.
 ghost use Rattle.std.specs.Prelude.{◌≡◌, ◌<◌, length, MatchOption, ◌==◌};
-ghost use Rattle.tables.specs.Words.{kind_number, word_of, of_kind, value_of, bytes_of, Begins};
+ghost use Rattle.std.specs.Iterator.{YieldsFirstBy, item_count};
+ghost use Rattle.tables.specs.Words.{kind_number, word_of, of_kind, value_of, value_if, bytes_of, words, Begins};
 
 // What a word says: a plain number, the physical block that a logical block is linked to, a count, or a print, which is
 // the fingerprint of a physical block.
 #[derive(Clone, Copy, PartialEq, Eq, Debug)]
 pub enum Kind {
-    Plain,
-    Link,
-    Count,
-    Print,
+    Plain = 0,
+    Link = 1,
+    Count = 2,
+    Print = 3,
 }
 
 #[derive(Clone, Copy, PartialEq, Eq, Debug)]
@@ -30,12 +31,7 @@ impl Kind {
     pub fn number(self) -> u32
         ensures { result ≡ kind_number self }
     {
-        match self {
-            Kind::Plain => 0,
-            Kind::Link => 1,
-            Kind::Count => 2,
-            Kind::Print => 3,
-        }
+        self as u32
     }
 }
 
@@ -52,7 +48,7 @@ impl Word {
     pub fn is_blank(self) -> bool
         ensures { result ≡ (self.bits == 0) }
     {
-        self.bits == 0
+        self == BLANK
     }
 
     // Whether the word is of this kind, by its top two bits.
@@ -75,6 +71,13 @@ impl Word {
     {
         self.bits % VALUES
     }
+
+    // The low 30 bits, if the word is of this kind.
+    pub fn value_if(self, kind: Kind) -> Option<u32>
+        ensures { result ≡ value_if kind self.bits }
+    {
+        self.is(kind).then_some(self.value())
+    }
 }
 
 // The word in the first four bytes, the lowest first, and the bytes after them; none where there are fewer.
@@ -87,5 +90,25 @@ pub(crate) fn split_word(bytes: &[u8]) -> Option<(Word, &[u8])>
             Some((Word { bits }, rest))
         }
         _ => None,
+    }
+}
+
+// The words of some bytes, in order. One to three bytes at the end are no word.
+#[derive(Drop)]
+pub(crate) struct Words<'a> {
+    pub(crate) left: &'a [u8],
+}
+
+impl<'a> Iterator for Words<'a> {
+    type Item = Word;
+
+    ghost next_gives = { YieldsFirstBy (λ word. word.bits) (λ s. words s.left.now) };
+
+    ghost remaining = { item_count (λ s. words s.left.now) };
+
+    fn next(&mut self) -> Option<Word> {
+        let (word, rest) = split_word(self.left)?;
+        self.left = rest;
+        Some(word)
     }
 }

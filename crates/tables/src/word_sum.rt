@@ -6,19 +6,13 @@ ghost use Rattle.std.proofs.Common.{rules};
 
 use crate::entry::Print;
 use crate::rule::{Rule, fold_hash};
-use crate::word::split_word;
+use crate::word::Words;
 
 // The sum of the words, modulo 2^32. One to three bytes at the end are no word, and left out; a block has none.
 fn sum_words(bytes: &[u8]) -> u32
     ensures { result ≡ word_sum bytes.now }
 {
-    let mut sum: u32 = 0;
-    let mut left = bytes;
-    while let Some((word, rest)) = split_word(left) {
-        sum = sum.wrapping_add(word.bits);
-        left = rest;
-    }
-    sum
+    Words { left: bytes }.fold(0, |sum: u32, word| sum.wrapping_add(word.bits))
 }
 
 // Rule 2, as a value that can be asked.
