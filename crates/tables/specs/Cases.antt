@@ -1,5 +1,5 @@
 -- Worked cases, as one list of statements that follow from the definitions.
-use Rattle.std.specs.Prelude.{◌≡◌, ℕ, List, [], ◌∷◌, replicate, Some, Ok, Err, codes, Option, Result}
+use Rattle.std.specs.Prelude.{◌≡◌, ℕ, List, [], ◌∷◌, replicate, cond, ◌&&◌, Some, None, Ok, Err, codes, Option, Result, ◌==◌, nat_lt}
 use Rattle.cards.specs.Faults.{number_of}
 use Rattle.cards.specs.declared.fault.Extent.TheVariants.{Logical}
 use Rattle.cards.specs.declared.fault.Fault.{Fault}
@@ -10,7 +10,8 @@ use Rattle.tables.specs.Headers.{header_words, header_read}
 use Rattle.tables.specs.Layouts.{shape, blocks_for, table_blocks, blocks_needed}
 use Rattle.tables.specs.Rules.{fold_30, fnv_1a, word_sum}
 use Rattle.tables.specs.Tables.{block_of, unpack_answer}
-use Rattle.tables.specs.Words.{bytes_of, words}
+use Rattle.tables.specs.Words.{of_kind, value_of, bytes_of, words}
+use Rattle.tables.specs.declared.word.Kind.TheVariants as kind
 
 -- each of the statements holds
 abbrev pub Hold : List (Type 0) → Type 0
@@ -33,6 +34,9 @@ worked =
     ∷ (one_entry (link_read 6) 0x40000005 ≡ Ok tt)
     ∷ (one_entry (link_read 6) 0x40000006 ≡ Err (BadWord 1 0))
     ∷ (number_of (BadWord 1 0) ≡ 9)
+    -- a link and a print, read from any word
+    ∷ ((p w : ℕ) → link_read p w ≡ cond (w == 0) (Some None) (cond (of_kind kind.Link w && nat_lt (value_of w) p) (Some (Some (physical_block (value_of w)))) None))
+    ∷ ((p w : ℕ) → print_read p w ≡ cond (w == 0) (Some None) (cond (of_kind kind.Print w) (Some (Some (print_of (value_of w)))) None))
     -- the greatest count, and one more
     ∷ (count_word (count_of 4095) ≡ 0x80000FFF)
     ∷ (one_entry (count_read 6) 0x80000FFF ≡ Ok tt)

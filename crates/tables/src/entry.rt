@@ -1,6 +1,6 @@
 // The entries of a volume's tables, and the word that each packs to.
 ghost use Rattle.std.specs.Prelude.{◌≡◌, ℕ, ◌^◌, ◌<◌, Some, Option};
-ghost use Rattle.tables.specs.Entries.{link_word, link_read, LinkValid, count_word, count_read, CountValid, print_word, print_read, PrintValid, whole_word, whole_read, WholeValid};
+ghost use Rattle.tables.specs.Entries.{block_word, block_read, BlockValid, count_word, count_read, CountValid, fingerprint_word, fingerprint_read, FingerprintValid, blank_or, blank_or_read, BlankOrValid, whole_word, whole_read, WholeValid};
 ghost use Rattle.std.proofs.Common.{rules};
 
 use crate::word::{BLANK, Kind, Word};
@@ -56,13 +56,18 @@ pub trait Entry: Sized {
     ghost packs: { (p w : ℕ) (e : Self) → w < 2 ^ 32 → reads p w ≡ Some e → packed e ≡ w };
 }
 
-// A link: the physical block that a logical block is linked to, or none.
-impl Entry for Option<PhysicalBlock> {
-    ghost packed = { link_word };
+// An entry that never packs to the zero word, which can then say that there is none.
+pub trait NeverBlank: Entry {
+    ghost never_blank: { (e : Self) → 0 < Self.packed e };
+}
 
-    ghost reads = { link_read };
+// A link: the number of a physical block.
+impl Entry for PhysicalBlock {
+    ghost packed = { block_word };
 
-    ghost valid = { LinkValid };
+    ghost reads = { block_read };
+
+    ghost valid = { BlockValid };
 
     ghost fits = { Prim.search rules };
 
@@ -73,29 +78,19 @@ impl Entry for Option<PhysicalBlock> {
     ghost packs = { Prim.search rules };
 
     fn pack(&self) -> Word {
-        match self {
-            Some(block) => Word::new(Kind::Link, u32::from(block.number)),
-            None => BLANK,
-        }
+        Word::new(Kind::Link, u32::from(self.number))
     }
 
-    fn unpack(word: Word, physical: u16) -> Option<Option<PhysicalBlock>> {
-        if word.is_blank() {
-            return Some(None);
-        }
-        let link = word.is(Kind::Link);
-        let value = word.value();
-        if link && value < u32::from(physical) {
-            Some(Some(PhysicalBlock {
-                number: value as u16,
-            }))
-        } else {
-            None
-        }
+    fn unpack(word: Word, physical: u16) -> Option<PhysicalBlock> {
+        let number = u16::try_from(word.value_if(Kind::Link)?).ok()?;
+        (number < physical).then_some(PhysicalBlock { number })
     }
 }
 
-// A count is never blank.
+impl NeverBlank for PhysicalBlock {
+    ghost never_blank = { Prim.search rules };
+}
+
 impl Entry for Count {
     ghost packed = { count_word };
 
@@ -116,25 +111,50 @@ impl Entry for Count {
     }
 
     fn unpack(word: Word, _physical: u16) -> Option<Count> {
-        let count = word.is(Kind::Count);
-        let value = word.value();
-        if count && value <= u32::from(COUNT_CEILING) {
-            Some(Count {
-                number: value as u16,
-            })
-        } else {
-            None
-        }
+        let number = u16::try_from(word.value_if(Kind::Count)?).ok()?;
+        (number <= COUNT_CEILING).then_some(Count { number })
     }
 }
 
-// A print, or none.
-impl Entry for Option<Print> {
-    ghost packed = { print_word };
+impl NeverBlank for Count {
+    ghost never_blank = { Prim.search rules };
+}
 
-    ghost reads = { print_read };
+impl Entry for Print {
+    ghost packed = { fingerprint_word };
 
-    ghost valid = { PrintValid };
+    ghost reads = { fingerprint_read };
+
+    ghost valid = { FingerprintValid };
+
+    ghost fits = { Prim.search rules };
+
+    ghost unpacks = { Prim.search rules };
+
+    ghost accepts = { Prim.search rules };
+
+    ghost packs = { Prim.search rules };
+
+    fn pack(&self) -> Word {
+        Word::new(Kind::Print, self.value)
+    }
+
+    fn unpack(word: Word, _physical: u16) -> Option<Print> {
+        word.value_if(Kind::Print).map(|value| Print { value })
+    }
+}
+
+impl NeverBlank for Print {
+    ghost never_blank = { Prim.search rules };
+}
+
+// An entry or none, which the zero word stands for: the link of a logical block, or the print of a physical block.
+impl<E: NeverBlank> Entry for Option<E> {
+    ghost packed = { blank_or E.packed };
+
+    ghost reads = { blank_or_read E.reads };
+
+    ghost valid = { BlankOrValid E.valid };
 
     ghost fits = { Prim.search rules };
 
@@ -146,20 +166,16 @@ impl Entry for Option<Print> {
 
     fn pack(&self) -> Word {
         match self {
-            Some(print) => Word::new(Kind::Print, print.value),
+            Some(entry) => entry.pack(),
             None => BLANK,
         }
     }
 
-    fn unpack(word: Word, _physical: u16) -> Option<Option<Print>> {
+    fn unpack(word: Word, physical: u16) -> Option<Option<E>> {
         if word.is_blank() {
             Some(None)
-        } else if word.is(Kind::Print) {
-            Some(Some(Print {
-                value: word.value(),
-            }))
         } else {
-            None
+            E::unpack(word, physical).map(Some)
         }
     }
 }
