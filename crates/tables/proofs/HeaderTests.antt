@@ -1,5 +1,5 @@
 -- The tests of a header on the words that were unpacked of it, and a packed header passing them.
-use Rattle.std.proofs.Common.{◌≡◌, ℕ, ◌^◌, ◌<◌, ◌≤◌, Bool, true, false, cond, eqb, List, [], ◌∷◌, ◌++◌, length, get_or, replicate, None, Ok, Err, Result, sym, refl, ap, ◌∙◌, subst, ap₂, arith, eq-eqb}
+use Rattle.std.proofs.Common.{◌≡◌, ℕ, ◌^◌, ◌<◌, ◌≤◌, Bool, true, false, cond, eqb, List, [], ◌∷◌, ◌++◌, map, length, get_or, replicate, None, Ok, Err, Result, sym, refl, ap, ◌∙◌, subst, ap₂, arith, eq-eqb}
 use Rattle.std.proofs.lemmas.Bool.{ne_eqb, eqb-true}
 use Rattle.std.specs.List.{AllByRecursion}
 use Rattle.std.specs.Result.{result_and}
@@ -129,3 +129,12 @@ pub passing_packed : (rule : ℕ) (bs : List ℕ) (s : Shape) → length bs ≡ 
 passing_packed rule bs s whole small e =
     let p = passing_words rule (words bs) s (length-words 128 bs (omega arith)) e in
     (p.0, block_from_words (header_words s rule) bs whole (omega arith) small p.1)
+
+-- Four words, each of them known, are a header's.
+pub four_words : (a b c d : ℕ) (ys : List Word) → length ys ≡ 4 → at ys 0 ≡ a → at ys 1 ≡ b → at ys 2 ≡ c → at ys 3 ≡ d → map whole_word ys ≡ a ∷ b ∷ c ∷ d ∷ []
+four_words a b c d [] l w x y z = absurd (omega arith)
+four_words a b c d (_ ∷ []) l w x y z = absurd (omega arith)
+four_words a b c d (_ ∷ _ ∷ []) l w x y z = absurd (omega arith)
+four_words a b c d (_ ∷ _ ∷ _ ∷ []) l w x y z = absurd (omega arith)
+four_words a b c d (_ ∷ _ ∷ _ ∷ _ ∷ []) l w x y z = cc
+four_words a b c d (_ ∷ _ ∷ _ ∷ _ ∷ _ ∷ ys) l w x y z = absurd (omega arith)

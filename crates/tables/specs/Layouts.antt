@@ -45,6 +45,10 @@ first_block s Links = 0
 first_block s Counts = blocks_for s.logical
 first_block s Prints = blocks_for s.logical + blocks_for s.physical
 
+-- the first table block after those of a table
+abbrev pub end_block : Shape → Table → ℕ
+end_block s t = first_block s t + blocks_for (entries_of s t)
+
 -- how many table blocks there are
 abbrev pub table_blocks : Shape → ℕ
 table_blocks s = blocks_for s.logical + blocks_for s.physical + blocks_for s.physical

@@ -25,18 +25,13 @@ pub fn pack_header<R: Rule>(shape: Shape, rule: &R) -> [u8; BLOCK_SIZE]
     ensures plain { AllByRecursion (λ w. of_kind Plain w ≡ true) (header_words shape (R.Rule.id rule.now)) }
     ensures back { ValidShape shape → header_read (R.Rule.id rule.now) (words result) ≡ Ok shape }
 {
-    pack_block(&[
-        Word { bits: VERSION },
-        Word {
-            bits: u32::from(shape.logical),
-        },
-        Word {
-            bits: u32::from(shape.physical),
-        },
-        Word {
-            bits: rule.number(),
-        },
-    ])
+    let words = [
+        VERSION,
+        u32::from(shape.logical),
+        u32::from(shape.physical),
+        rule.number(),
+    ];
+    pack_block(&words.map(|bits| Word { bits }))
 }
 
 // The tests of an opening, in their order, each on a whole word: the version, the two sizes, this number of the rule, and

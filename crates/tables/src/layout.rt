@@ -1,13 +1,14 @@
 // Where a volume lies on its card: the header, the blocks of the link, count and print tables, and the physical blocks.
-ghost use Rattle.std.specs.Prelude.{◌≡◌, ◌+◌, ◌<◌, ◌≤◌, MatchOption};
-ghost use Rattle.tables.specs.Layouts.{sized_or, shape_of, blocks_for, entries_of, first_block, table_blocks, part, table_block, card_block_of, blocks_needed, EachInOne};
+ghost use Rattle.std.specs.Prelude.{◌≡◌, ◌+◌, ◌<◌, ◌≤◌, [], ◌∷◌, find, nat_lt, MatchOption};
+ghost use Rattle.tables.specs.Layouts.{sized_or, shape_of, blocks_for, entries_of, first_block, end_block, table_blocks, part, table_block, card_block_of, blocks_needed, EachInOne};
+ghost use Rattle.tables.specs.declared.layout.Table.TheVariants.{Links, Counts, Prints};
 
 use crate::entry::PhysicalBlock;
 use crate::table::WORDS_PER_BLOCK;
 use cards::fault::{Extent, Fault, Layer};
 
 // The most logical blocks, and the most physical blocks, of a volume.
-const LARGEST_SIZE: u32 = 2048;
+const LARGEST_SIZE: u16 = 2048;
 
 // How many logical and how many physical blocks a volume has.
 #[derive(Clone, Copy, PartialEq, Eq, Debug)]
@@ -39,11 +40,10 @@ pub struct TableBlock {
 fn check_size(layer: Layer, extent: Extent, size: u32) -> Result<u16, Fault>
     ensures { result ≡ sized_or layer extent size }
 {
-    if 1 <= size && size <= LARGEST_SIZE {
-        Ok(size as u16)
-    } else {
-        Err(Fault::VolumeSize { layer, extent })
-    }
+    u16::try_from(size)
+        .ok()
+        .filter(|blocks| (1..=LARGEST_SIZE).contains(blocks))
+        .ok_or(Fault::VolumeSize { layer, extent })
 }
 
 // How many table blocks so many entries take.
@@ -84,12 +84,29 @@ impl Shape {
         }
     }
 
+    // The first table block after those of a table.
+    fn end_block(self, table: Table) -> usize
+        ensures { result ≡ end_block self table }
+    {
+        self.first_block(table) + blocks_for(self.entries(table))
+    }
+
+    // The table that table block n is of: the first that ends after it.
+    fn table_of(self, n: usize) -> Option<Table>
+        ensures { result ≡ find (λ t. nat_lt n (end_block self t)) (Links ∷ Counts ∷ Prints ∷ []) }
+    {
+        [Table::Links, Table::Counts, Table::Prints]
+            .iter()
+            .copied()
+            .find(|table| n < self.end_block(*table))
+    }
+
     // How many table blocks the volume has. Each entry of each table is in one of them, and in no other.
     pub fn table_blocks(self) -> usize
         ensures value { result ≡ table_blocks self }
         ensures covers { EachInOne self }
     {
-        self.first_block(Table::Prints) + blocks_for(self.physical)
+        self.end_block(Table::Prints)
     }
 
     // Table block n, as a block of this table.
@@ -112,15 +129,7 @@ impl Shape {
         ensures value { result ≡ table_block self n }
         ensures within { MatchOption result (table_blocks self ≤ n) (λ b. (n < table_blocks self) × (b.card_block ≡ 1 + n) × (0 < b.entries) × (b.entries ≤ 128) × (b.first + b.entries ≤ entries_of self b.table)) }
     {
-        if n < self.first_block(Table::Counts) {
-            Some(self.part(Table::Links, n))
-        } else if n < self.first_block(Table::Prints) {
-            Some(self.part(Table::Counts, n))
-        } else if n < self.table_blocks() {
-            Some(self.part(Table::Prints, n))
-        } else {
-            None
-        }
+        self.table_of(n).map(|table| self.part(table, n))
     }
 
     // The card block of a physical block.

@@ -16,6 +16,15 @@ use crate::table::{pack_block, unpack_block};
 use cards::card::{BLOCK_SIZE, Card};
 use cards::fault::Fault;
 
+// The bytes of a block of the card.
+fn read_block<C: Card>(card: &C, block: usize) -> Result<[u8; BLOCK_SIZE], Fault>
+    ensures { result ≡ result_and (answer (C.Card.meaning card.now).size block 512) (Ok ((C.Card.meaning card.now).present block)) }
+{
+    let mut bytes = [0u8; BLOCK_SIZE];
+    card.read(block, &mut bytes)?;
+    Ok(bytes)
+}
+
 // Packs the first 128 entries to a block of the card.
 pub fn save_entries<C: Card, E: Entry>(
     card: &mut C,
@@ -41,9 +50,7 @@ pub fn load_entries<C: Card, E: Entry + Copy>(
     ensures entries { out.new ≡ (if is_ok (answer (C.Card.meaning card.now).size block 512) then unpacked (E.Entry.reads physical) ((C.Card.meaning card.now).present block) out.old else out.old) }
     ensures back { result ≡ Ok tt → length out.old ≤ 128 → AllByRecursion (E.Entry.valid physical) out.new × ((C.Card.meaning card.now).present block ≡ block_of (map E.Entry.packed out.new)) }
 {
-    let mut bytes = [0u8; BLOCK_SIZE];
-    card.read(block, &mut bytes)?;
-    unpack_block(&bytes, block, physical, out)
+    unpack_block(&read_block(card, block)?, block, physical, out)
 }
 
 // Packs the header of a volume of this shape, under this rule, to the card.
@@ -61,7 +68,5 @@ pub fn load_header<C: Card, R: Rule>(card: &C, rule: &R) -> Result<Shape, Fault>
     ensures value { result ≡ result_and (answer (C.Card.meaning card.now).size 0 512) (header_read (R.Rule.id rule.now) (words ((C.Card.meaning card.now).present 0))) }
     ensures back { (shape : Shape) → result ≡ Ok shape → ValidShape shape × ((C.Card.meaning card.now).present 0 ≡ block_of (header_words shape (R.Rule.id rule.now))) }
 {
-    let mut bytes = [0u8; BLOCK_SIZE];
-    card.read(HEADER_BLOCK, &mut bytes)?;
-    unpack_header(&bytes, rule)
+    unpack_header(&read_block(card, HEADER_BLOCK)?, rule)
 }

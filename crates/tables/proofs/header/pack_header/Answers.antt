@@ -1,21 +1,21 @@
-use Rattle.std.proofs.Common.{◌≡◌, ℕ, ◌/◌, ◌^◌, ◌<◌, true, arith, rules, eq-eqb}
-use Rattle.tables.specs.declared.word.Kind.TheVariants.{Plain}
-use Rattle.tables.specs.Headers.{header_words}
+use Rattle.std.proofs.Common.{◌≡◌, ◌^◌, ◌<◌, ap, ◌∙◌, arith, rules}
 use Rattle.tables.specs.Tables.{block_of}
-use Rattle.tables.specs.Words.{of_kind}
-use Rattle.tables.proofs.HeaderTests.{packed_passes}
+use Rattle.tables.proofs.HeaderTests.{at, four_words, packed_passes}
 use Rattle.tables.proofs.header.pack_header.Goals as goal
 
-plain : (w : ℕ) → w < 2 ^ 30 → of_kind Plain w ≡ true
-plain w small = eq-eqb (w / 2 ^ 30) 0 (omega arith)
+pub returns-clause-bytes : goal.returns-clause-bytes
+returns-clause-bytes g c =
+    let ys = c.map.result in
+    let e = c.map.ensures.items.each in
+    let w : at ys 0 ≡ 1 = search rules in
+    let x : at ys 1 ≡ c.args.shape.logical = search rules in
+    let y : at ys 2 ≡ c.args.shape.physical = search rules in
+    let z : at ys 3 ≡ g.R.Rule.id c.args.rule.now = search rules in
+    c.pack_block.ensures.bytes ∙ ap block_of (four_words 1 c.args.shape.logical c.args.shape.physical (g.R.Rule.id c.args.rule.now) ys c.map.ensures.items.long w x y z)
 
-pub returns : goal.returns
-returns g c =
+pub returns-clause-back : goal.returns-clause-back
+returns-clause-back g c =
+    let shape = c.args.shape in
     let id = g.R.Rule.id c.args.rule.now in
     let small : id < 2 ^ 30 = g.met.R.Rule.numbered c.args.rule.now in
-    let bytes : c.pack_block.result ≡ block_of (header_words c.args.shape id) = search rules in
-    record {
-      bytes = bytes;
-      plain = (plain 1 (omega arith), (plain c.args.shape.logical (search rules), (plain c.args.shape.physical (search rules), (plain id small, tt))));
-      back = packed_passes c.args.shape id c.pack_block.result (search rules) (search rules) (omega arith) bytes;
-    }
+    packed_passes shape id c.pack_block.result (search rules) (search rules) (omega arith) (returns-clause-bytes g c)
