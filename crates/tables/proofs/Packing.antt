@@ -1,7 +1,10 @@
 -- The words of entries written to a block one by one.
-use Rattle.std.proofs.Common.{◌≡◌, ℕ, ◌+◌, ◌-◌, ◌*◌, ◌<◌, ◌≤◌, min, List, [], ◌∷◌, ◌++◌, map, length, get_or, take, drop, replicate, sym, refl, ap, ◌∙◌, ap₂, inl, inr, arith}
+use Rattle.std.proofs.Common.{◌≡◌, ℕ, zero, suc, ◌+◌, ◌-◌, ◌*◌, ◌<◌, ◌≤◌, min, List, [], ◌∷◌, ◌++◌, map, length, get_or, take, drop, replicate, sym, refl, ap, ◌∙◌, ap₂, subst, inl, inr, arith}
 use Rattle.std.proofs.lemmas.List.{append_assoc, length_push, length-take-le, take-append-drop, take_at, take_all, drop_at, drop-drop, drop-replicate, take-map, map_more, length-map}
 use Rattle.std.proofs.lemmas.Bool.{cases_lt}
+use denote.Param.Members.{Mut}
+use Rattle.std.specs.Array.{IsFromFnResultFrom}
+use Rattle.std.specs.Fn.{Called}
 use Rattle.std.specs.List.{flat_map}
 use Rattle.cards.proofs.BlockLaws.{content_filled}
 use Rattle.tables.specs.Words.{bytes_of}
@@ -18,44 +21,29 @@ joined-append (v ∷ vs) ws = ap (λ r. bytes_of v ++ r) (joined-append vs ws)
 pub block_is : (ws : List ℕ) → length ws ≤ 128 → block_of ws ≡ flat_map bytes_of ws ++ replicate (512 - 4 * length ws) 0
 block_is ws few = content_filled (flat_map bytes_of ws) _ (omega (arith, length-joined ws)) (ap (λ n. 512 - n) (sym (length-joined ws)))
 
--- One word more, over the zeros after the words before it.
-pub put_more : (ws : List ℕ) (i w : ℕ) → length ws ≡ i → i < 128 → take (i * 4) (block_of ws) ++ (bytes_of w ++ drop (i * 4 + 4) (block_of ws)) ≡ block_of (ws ++ w ∷ [])
-put_more ws i w e lt =
-    let j = flat_map bytes_of ws in
-    let z : List ℕ = replicate (512 - 4 * length ws) 0 in
-    let is = block_is ws (omega arith) in
-    let front : length j ≡ i * 4 = omega (arith, length-joined ws) in
-    let left : 512 - 4 * length ws - 4 ≡ 512 - 4 * length (ws ++ w ∷ []) = omega (arith, length_push ws w) in
-    let rest : drop (i * 4 + 4) (j ++ z) ≡ replicate (512 - 4 * length (ws ++ w ∷ [])) 0 =
-    sym (drop-drop 4 (i * 4) (j ++ z)) ∙ ap (drop 4) (drop_at j z (i * 4) front) ∙ drop-replicate 4 (512 - 4 * length ws) 0
-    ∙ ap (λ n. replicate n 0) left in
-    ap (λ b. take (i * 4) b ++ (bytes_of w ++ drop (i * 4 + 4) b)) is
-    ∙ ap₂ (λ a b. a ++ (bytes_of w ++ b)) (take_at j z (i * 4) front) rest
-    ∙ sym (append_assoc j (bytes_of w) _)
-    ∙ ap (λ b. b ++ replicate (512 - 4 * length (ws ++ w ∷ [])) 0) (sym (joined-append ws (w ∷ [])))
-    ∙ sym (block_is (ws ++ w ∷ []) (omega (arith, length_push ws w)))
+-- One run more, before those that the words after it come to.
+run_zero : (run rest : List ℕ) (n m k j : ℕ) → n ≡ suc (suc (suc (suc k))) → m ≡ suc (suc (suc (suc j))) → run ≡ bytes_of 0 → rest ≡ take k (replicate j 0) → run ++ rest ≡ take n (replicate m 0)
+run_zero run rest n m k j z y f r = simp (z, y, f) (ap (λ xs. bytes_of 0 ++ xs) r)
 
--- A block has room for 128 words.
-pub block_cut : (ws : List ℕ) (n : ℕ) → n ≡ min (length ws) 128 → block_of (take n ws) ≡ block_of ws
-block_cut ws n e = elim (cases_lt 128 (length ws)) [
-  | inr le ↦ ap block_of (take_all n ws (omega arith))
-  | inl lt ↦
-      let full : length (flat_map bytes_of (take n ws)) ≡ 512 = omega (arith, length-joined (take n ws), length-take-le n ws (omega arith)) in
-      take_at (flat_map bytes_of (take n ws)) (replicate 512 0) 512 full
-      ∙ sym (take_at (flat_map bytes_of (take n ws)) (flat_map bytes_of (drop n ws) ++ replicate 512 0) 512 full)
-      ∙ ap (take 512) (sym (append_assoc (flat_map bytes_of (take n ws)) (flat_map bytes_of (drop n ws)) (replicate 512 0)))
-      ∙ ap (λ b. take 512 (b ++ replicate 512 0)) (sym (joined-append (take n ws) (drop n ws)) ∙ ap (flat_map bytes_of) (take-append-drop n ws))
-]
+run_word : (run rest xs : List ℕ) (w n k : ℕ) → n ≡ suc (suc (suc (suc k))) → run ≡ bytes_of w → rest ≡ take k xs → run ++ rest ≡ take n (bytes_of w ++ xs)
+run_word run rest xs w n k z f r = simp (z, f) (ap (λ ys. bytes_of w ++ ys) r)
 
-module _ {E : Type 0} (packed : E → ℕ) (es : List E) where
-  pub entry_more : (i w : ℕ) (e : E) (old new : List ℕ) → i < length es → length es ≤ 128 → e ≡ get_or es i e → w ≡ packed e → old ≡ block_of (map packed (take i es))
-      → new ≡ take (i * 4) old ++ (bytes_of w ++ drop (i * 4 + 4) old) → new ≡ block_of (map packed (take (i + 1) es))
-  entry_more i w e old new lt few is p o n =
-      n ∙ ap (λ b. take (i * 4) b ++ (bytes_of w ++ drop (i * 4 + 4) b)) o
-      ∙ put_more (map packed (take i es)) i w (length-map (take i es) packed ∙ length-take-le i es (omega arith)) (omega arith)
-      ∙ ap (λ v. block_of (map packed (take i es) ++ v ∷ [])) (p ∙ ap packed is)
-      ∙ ap block_of (sym (map_more packed es i e lt))
+-- Runs of four bytes, each of them the bytes of a word, blank after the last of the words ws.
+pub joined_runs : (runs : List (List ℕ)) (ws : List ℕ) (n m : ℕ) → n ≡ 4 * length runs → n ≤ m → ((i : ℕ) → i < length runs → get_or runs i [] ≡ bytes_of (get_or ws i 0))
+    → flat_map (λ run. run) runs ≡ take n (flat_map bytes_of ws ++ replicate m 0)
+joined_runs [] ws n m e l h = let z : n ≡ 0 = omega arith in simp z
+joined_runs (run ∷ runs) [] n m e l h =
+    run_zero run (flat_map (λ r. r) runs) n m (n - 4) (m - 4) (omega arith) (omega arith) (h 0 (omega arith)) (joined_runs runs [] (n - 4) (m - 4) (omega arith) (omega arith) (λ i lt. h (suc i) (omega arith)))
+joined_runs (run ∷ runs) (w ∷ ws) n m e l h =
+    run_word run (flat_map (λ r. r) runs) (flat_map bytes_of ws ++ replicate m 0) w n (n - 4) (omega arith) (h 0 (omega arith)) (joined_runs runs ws (n - 4) m (omega arith) (omega arith) (λ i lt. h (suc i) (omega arith)))
 
-  pub entries_cut : (n : ℕ) → n ≡ min (length es) 128 → block_of (map packed (take n es)) ≡ block_of (map packed es)
-  entries_cut n e =
-      ap block_of (sym (take-map packed n es)) ∙ block_cut (map packed es) n (e ∙ ap (λ k. min k 128) (sym (length-map es packed)))
+-- An array that a closure made which each call leaves as it was: each element is what the call at its place says.
+pub made_by : {F B : Type 0} (g : Mut F (ℕ × Unit {0}) B) (P : ℕ → B → Type 0) (f : F) → ((i : ℕ) (r : B) (k : F) → Called g f (i, tt) r k → P i r × (k ≡ f))
+    → (ys : List B) (d : B) (n a : ℕ) → IsFromFnResultFrom g f ys a n → (i : ℕ) → a ≤ i → i < a + n → P i (get_or ys i d)
+made_by g P f h ys d zero a made i lo hi = absurd (omega arith)
+made_by g P f h ys d (suc n) a made i lo hi =
+    let s = h a made.1 made.0 made.3 in
+    elim (cases_lt a i) [
+      | inl lt ↦ made_by g P f h ys d n (a + 1) (subst (λ q. IsFromFnResultFrom g q ys (a + 1) n) s.1 made.4) i (omega arith) (omega arith)
+      | inr le ↦ let e : a ≡ i = omega arith in subst (λ k. P k (get_or ys k d)) e (subst (λ y. P a y) (sym (made.2.1 d)) s.0)
+    ]

@@ -1,35 +1,23 @@
 // A table block: the words of a run of entries, and zero words after them. One text for every kind of entry.
-ghost use Rattle.std.specs.Prelude.{◌≡◌, ℕ, ◌+◌, ◌*◌, ◌≤◌, [], ◌++◌, map, length, take, drop, is_some, Ok, slice_set};
+ghost use Rattle.std.specs.Prelude.{◌≡◌, ℕ, ◌+◌, ◌*◌, ◌≤◌, [], ◌++◌, map, length, take, drop, is_some, Ok, slice_set, slice_index};
 ghost use Rattle.std.specs.List.{AllByRecursion};
 ghost use Rattle.tables.specs.Words.{words, bytes_of};
 ghost use Rattle.tables.specs.Tables.{block_of, good_word, unpack_answer, Judged, on_entry, unpacked, UnpacksTo};
 
 use crate::entry::Entry;
-use crate::word::{WORD_SIZE, Word, Words};
+use crate::word::{BLANK, WORD_SIZE, Word, Words};
 use cards::card::BLOCK_SIZE;
 use cards::fault::Fault;
+use std::array;
 
 // The words of a block.
 pub const WORDS_PER_BLOCK: usize = BLOCK_SIZE / WORD_SIZE;
 
-// Writes a word over word i of the bytes.
-fn put_word(bytes: &mut [u8], i: usize, word: Word)
-    requires { i * 4 + 4 ≤ length bytes.old }
-    ensures { bytes.new ≡ take (i * 4) bytes.old ++ (bytes_of word.bits ++ drop (i * 4 + 4) bytes.old) }
+// Word i of the block that the entries pack to: blank after the last of them.
+fn word_at<E: Entry>(entries: &[E], i: usize) -> Word
+    ensures { result.bits ≡ slice_index (map E.Entry.packed entries.now) i }
 {
-    let part = &mut bytes[i * WORD_SIZE..i * WORD_SIZE + WORD_SIZE];
-    part.copy_from_slice(&word.to_bytes());
-}
-
-// Writes the words of the entries over the front of a block of zeros.
-fn put_entries<E: Entry>(entries: &[E], bytes: &mut [u8])
-    requires few { length entries.now ≤ 128 }
-    requires zeros { bytes.old ≡ block_of [] }
-    ensures { bytes.new ≡ block_of (map E.Entry.packed entries.now) }
-{
-    for (i, entry) in entries.iter().enumerate() {
-        put_word(bytes, i, entry.pack());
-    }
+    entries.get(i).map_or(BLANK, |entry| entry.pack())
 }
 
 // Packs entries to a block: word i is the word of entry i, and the words after the last entry are zero. A block has 128
@@ -38,8 +26,13 @@ pub fn pack_block<E: Entry>(entries: &[E]) -> [u8; BLOCK_SIZE]
     ensures bytes { result ≡ block_of (map E.Entry.packed entries.now) }
     ensures back { (p : ℕ) → length entries.now ≤ 128 → AllByRecursion (E.Entry.valid p) entries.now → UnpacksTo (E.Entry.reads p) entries.now result }
 {
+    let words: [[u8; WORD_SIZE]; WORDS_PER_BLOCK] = array::from_fn(
+        |i| -> [u8; WORD_SIZE]
+            ensures { result ≡ bytes_of (slice_index (map E.Entry.packed entries.entry.now) i) }
+        { word_at(entries, i).to_bytes() },
+    );
     let mut block = [0u8; BLOCK_SIZE];
-    put_entries(&entries[..entries.len().min(WORDS_PER_BLOCK)], &mut block);
+    block.copy_from_slice(words.as_flattened());
     block
 }
 
