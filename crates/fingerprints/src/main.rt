@@ -17,7 +17,7 @@ use tables::word_sum::WordSum;
 
 // The word in a print table for a block that holds this text.
 fn print_word<R: Rule>(rule: &R, text: &str) -> Word
-    ensures { result.bits ≡ print_word (Some (print_of (R.Rule.print rule.now (content text.now)))) }
+    ensures { result.bits ≡ print_word (Some (print_of (R.print rule.now (content text.now)))) }
 {
     Some(rule.fingerprint(&content_of(text.as_bytes()))).pack()
 }

@@ -80,10 +80,8 @@ const SMALL: Shape = Shape {
 // What the header of a small volume under rule 1 is taken for, if it has these bytes from a place on.
 fn opened(place: usize, bytes: &[u8]) -> Result<Shape, Fault> {
     let mut header = pack_header(SMALL, &Fnv1a);
-    for (i, byte) in bytes.iter().enumerate() {
-        if place < BLOCK_SIZE && i < BLOCK_SIZE - place {
-            header[place + i] = *byte;
-        }
+    for (byte, new) in header.iter_mut().skip(place).zip(bytes) {
+        *byte = *new;
     }
     unpack_header(&header, &Fnv1a)
 }

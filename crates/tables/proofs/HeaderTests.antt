@@ -61,10 +61,6 @@ module _ (rule : ℕ) (bytes : List ℕ) (whole : length bytes ≡ 512) (out : L
   in_tests : header_read rule ws ≡ tests (eqb (at out 0) 1) (shape_of Table (at out 1) (at out 2)) (eqb (at out 3) rule) (tail_of ws) (at out 1) (at out 2)
   in_tests = as_tests rule ws out (omega (arith, length-words 128 bytes whole)) read
 
-  pub other_version : (at out 0 ≡ 1 → ⊥) → header_read rule ws ≡ Err Version
-  other_version v =
-      in_tests ∙ ap (λ t. tests t (shape_of Table (at out 1) (at out 2)) (eqb (at out 3) rule) (tail_of ws) (at out 1) (at out 2)) (ne_eqb (at out 0) 1 v)
-
   module _ (version : at out 0 ≡ 1) where
     right_version : header_read rule ws ≡ tests true (shape_of Table (at out 1) (at out 2)) (eqb (at out 3) rule) (tail_of ws) (at out 1) (at out 2)
     right_version =

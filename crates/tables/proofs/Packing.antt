@@ -1,6 +1,5 @@
 -- The words of entries written to a block one by one.
-use Rattle.std.proofs.Common.{◌≡◌, ℕ, zero, suc, ◌+◌, ◌-◌, ◌*◌, ◌<◌, ◌≤◌, min, List, [], ◌∷◌, ◌++◌, map, length, get_or, take, drop, replicate, sym, refl, ap, ◌∙◌, ap₂, subst, inl, inr, arith}
-use Rattle.std.proofs.lemmas.List.{append_assoc, length_push, length-take-le, take-append-drop, take_at, take_all, drop_at, drop-drop, drop-replicate, take-map, map_more, length-map}
+use Rattle.std.proofs.Common.{◌≡◌, ℕ, zero, suc, ◌+◌, ◌-◌, ◌*◌, ◌<◌, ◌≤◌, List, [], ◌∷◌, ◌++◌, length, get_or, take, replicate, sym, refl, ap, subst, inl, inr, arith}
 use Rattle.std.proofs.lemmas.Bool.{cases_lt}
 use denote.Param.Members.{Mut}
 use Rattle.std.specs.Array.{IsFromFnResultFrom}

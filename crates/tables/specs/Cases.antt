@@ -5,7 +5,7 @@ use Rattle.cards.specs.declared.fault.Extent.TheVariants.{Logical}
 use Rattle.cards.specs.declared.fault.Fault.{Fault}
 use Rattle.cards.specs.declared.fault.Fault.TheVariants.{BadWord, VolumeSize}
 use Rattle.cards.specs.declared.fault.Layer.TheVariants.{Table}
-use Rattle.tables.specs.Entries.{physical_block, count_of, print_of, link_word, link_read, count_word, count_read, print_word, print_read}
+use Rattle.tables.specs.Entries.{physical_block, count_of, print_of, link_word, link_read, LinkValid, count_word, count_read, print_word, print_read, PrintValid}
 use Rattle.tables.specs.Headers.{header_words, header_read}
 use Rattle.tables.specs.Layouts.{shape, blocks_for, table_blocks, blocks_needed}
 use Rattle.tables.specs.Rules.{fold_30, fnv_1a, word_sum}
@@ -34,6 +34,7 @@ worked =
     ∷ (one_entry (link_read 6) 0x40000005 ≡ Ok tt)
     ∷ (one_entry (link_read 6) 0x40000006 ≡ Err (BadWord 1 0))
     ∷ (number_of (BadWord 1 0) ≡ 9)
+    ∷ LinkValid 6 (Some (physical_block 5))
     -- a link and a print, read from any word
     ∷ ((p w : ℕ) → link_read p w ≡ cond (w == 0) (Some None) (cond (of_kind kind.Link w && nat_lt (value_of w) p) (Some (Some (physical_block (value_of w)))) None))
     ∷ ((p w : ℕ) → print_read p w ≡ cond (w == 0) (Some None) (cond (of_kind kind.Print w) (Some (Some (print_of (value_of w)))) None))
@@ -56,6 +57,7 @@ worked =
     ∷ (blocks_for 129 ≡ 2)
     ∷ (table_blocks (shape 129 1) ≡ 4)
     -- blank words, and a word after the last entry
+    ∷ PrintValid 6 None
     ∷ (one_entry (link_read 6) 0 ≡ Ok tt)
     ∷ (one_entry (print_read 6) 0 ≡ Ok tt)
     ∷ (one_entry (count_read 6) 0 ≡ Err (BadWord 1 0))

@@ -21,9 +21,9 @@ const VERSION: u32 = 1;
 
 // The header of a volume of this shape under this rule: four plain words, and zero words after them.
 pub fn pack_header<R: Rule>(shape: Shape, rule: &R) -> [u8; BLOCK_SIZE]
-    ensures bytes { result ≡ block_of (header_words shape (R.Rule.id rule.now)) }
-    ensures plain { AllByRecursion (λ w. of_kind Plain w ≡ true) (header_words shape (R.Rule.id rule.now)) }
-    ensures back { ValidShape shape → header_read (R.Rule.id rule.now) (words result) ≡ Ok shape }
+    ensures bytes { result ≡ block_of (header_words shape (R.id rule.now)) }
+    ensures plain { AllByRecursion (λ w. of_kind Plain w ≡ true) (header_words shape (R.id rule.now)) }
+    ensures back { ValidShape shape → header_read (R.id rule.now) (words result) ≡ Ok shape }
 {
     let words = [
         VERSION,
@@ -56,8 +56,8 @@ fn test_header(bytes: &[u8; BLOCK_SIZE], rule: u32) -> Result<Shape, Fault>
 
 // The shape of the volume that the header is of, if it is a header under this rule.
 pub fn unpack_header<R: Rule>(bytes: &[u8; BLOCK_SIZE], rule: &R) -> Result<Shape, Fault>
-    ensures value { result ≡ header_read (R.Rule.id rule.now) (words bytes.now) }
-    ensures back { (shape : Shape) → result ≡ Ok shape → ValidShape shape × (bytes.now ≡ block_of (header_words shape (R.Rule.id rule.now))) }
+    ensures value { result ≡ header_read (R.id rule.now) (words bytes.now) }
+    ensures back { (shape : Shape) → result ≡ Ok shape → ValidShape shape × (bytes.now ≡ block_of (header_words shape (R.id rule.now))) }
 {
     test_header(bytes, rule.number())
 }

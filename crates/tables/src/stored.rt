@@ -18,7 +18,7 @@ use cards::fault::Fault;
 
 // The bytes of a block of the card.
 fn read_block<C: Card>(card: &C, block: usize) -> Result<[u8; BLOCK_SIZE], Fault>
-    ensures { result ≡ result_and (answer (C.Card.meaning card.now).size block 512) (Ok ((C.Card.meaning card.now).present block)) }
+    ensures { result ≡ result_and (answer (C.meaning card.now).size block 512) (Ok ((C.meaning card.now).present block)) }
 {
     let mut bytes = [0u8; BLOCK_SIZE];
     card.read(block, &mut bytes)?;
@@ -31,10 +31,10 @@ pub fn save_entries<C: Card, E: Entry>(
     block: usize,
     entries: &[E],
 ) -> Result<(), Fault>
-    ensures value { result ≡ answer (C.Card.meaning card.old).size block 512 }
-    ensures card { Written result (C.Card.meaning card.old) block (block_of (map E.Entry.packed entries.now)) (C.Card.meaning card.new) }
-    ensures exact { C.Card.writes card.old block (block_of (map E.Entry.packed entries.now)) card.new }
-    ensures lender { C.Card.lenders card.new ≡ C.Card.lenders card.old }
+    ensures value { result ≡ answer (C.meaning card.old).size block 512 }
+    ensures card { Written result (C.meaning card.old) block (block_of (map E.packed entries.now)) (C.meaning card.new) }
+    ensures exact { C.writes card.old block (block_of (map E.packed entries.now)) card.new }
+    ensures lender { C.lenders card.new ≡ C.lenders card.old }
 {
     card.write(block, &pack_block(entries))
 }
@@ -46,27 +46,27 @@ pub fn load_entries<C: Card, E: Entry + Copy>(
     physical: u16,
     out: &mut [E],
 ) -> Result<(), Fault>
-    ensures value { result ≡ result_and (answer (C.Card.meaning card.now).size block 512) (unpack_answer block (E.Entry.reads physical) (length out.old) ((C.Card.meaning card.now).present block)) }
-    ensures entries { out.new ≡ (if is_ok (answer (C.Card.meaning card.now).size block 512) then unpacked (E.Entry.reads physical) ((C.Card.meaning card.now).present block) out.old else out.old) }
-    ensures back { result ≡ Ok tt → length out.old ≤ 128 → AllByRecursion (E.Entry.valid physical) out.new × ((C.Card.meaning card.now).present block ≡ block_of (map E.Entry.packed out.new)) }
+    ensures value { result ≡ result_and (answer (C.meaning card.now).size block 512) (unpack_answer block (E.reads physical) (length out.old) ((C.meaning card.now).present block)) }
+    ensures entries { out.new ≡ (if is_ok (answer (C.meaning card.now).size block 512) then unpacked (E.reads physical) ((C.meaning card.now).present block) out.old else out.old) }
+    ensures back { result ≡ Ok tt → length out.old ≤ 128 → AllByRecursion (E.valid physical) out.new × ((C.meaning card.now).present block ≡ block_of (map E.packed out.new)) }
 {
     unpack_block(&read_block(card, block)?, block, physical, out)
 }
 
 // Packs the header of a volume of this shape, under this rule, to the card.
 pub fn save_header<C: Card, R: Rule>(card: &mut C, shape: Shape, rule: &R) -> Result<(), Fault>
-    ensures value { result ≡ answer (C.Card.meaning card.old).size 0 512 }
-    ensures card { Written result (C.Card.meaning card.old) 0 (block_of (header_words shape (R.Rule.id rule.now))) (C.Card.meaning card.new) }
-    ensures exact { C.Card.writes card.old 0 (block_of (header_words shape (R.Rule.id rule.now))) card.new }
-    ensures lender { C.Card.lenders card.new ≡ C.Card.lenders card.old }
+    ensures value { result ≡ answer (C.meaning card.old).size 0 512 }
+    ensures card { Written result (C.meaning card.old) 0 (block_of (header_words shape (R.id rule.now))) (C.meaning card.new) }
+    ensures exact { C.writes card.old 0 (block_of (header_words shape (R.id rule.now))) card.new }
+    ensures lender { C.lenders card.new ≡ C.lenders card.old }
 {
     card.write(HEADER_BLOCK, &pack_header(shape, rule))
 }
 
 // The shape of the volume whose header is on the card, if it is a header under this rule.
 pub fn load_header<C: Card, R: Rule>(card: &C, rule: &R) -> Result<Shape, Fault>
-    ensures value { result ≡ result_and (answer (C.Card.meaning card.now).size 0 512) (header_read (R.Rule.id rule.now) (words ((C.Card.meaning card.now).present 0))) }
-    ensures back { (shape : Shape) → result ≡ Ok shape → ValidShape shape × ((C.Card.meaning card.now).present 0 ≡ block_of (header_words shape (R.Rule.id rule.now))) }
+    ensures value { result ≡ result_and (answer (C.meaning card.now).size 0 512) (header_read (R.id rule.now) (words ((C.meaning card.now).present 0))) }
+    ensures back { (shape : Shape) → result ≡ Ok shape → ValidShape shape × ((C.meaning card.now).present 0 ≡ block_of (header_words shape (R.id rule.now))) }
 {
     unpack_header(&read_block(card, HEADER_BLOCK)?, rule)
 }

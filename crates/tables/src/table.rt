@@ -1,5 +1,5 @@
 // A table block: the words of a run of entries, and zero words after them. One text for every kind of entry.
-ghost use Rattle.std.specs.Prelude.{◌≡◌, ℕ, ◌+◌, ◌*◌, ◌≤◌, [], ◌++◌, map, length, take, drop, is_some, Ok, slice_set, slice_index};
+ghost use Rattle.std.specs.Prelude.{◌≡◌, ℕ, ◌+◌, ◌≤◌, map, length, is_some, Ok, slice_set, slice_index};
 ghost use Rattle.std.specs.List.{AllByRecursion};
 ghost use Rattle.tables.specs.Words.{words, bytes_of};
 ghost use Rattle.tables.specs.Tables.{block_of, good_word, unpack_answer, Judged, on_entry, unpacked, UnpacksTo};
@@ -15,7 +15,7 @@ pub const WORDS_PER_BLOCK: usize = BLOCK_SIZE / WORD_SIZE;
 
 // Word i of the block that the entries pack to: blank after the last of them.
 fn word_at<E: Entry>(entries: &[E], i: usize) -> Word
-    ensures { result.bits ≡ slice_index (map E.Entry.packed entries.now) i }
+    ensures { result.bits ≡ slice_index (map E.packed entries.now) i }
 {
     entries.get(i).map_or(BLANK, |entry| entry.pack())
 }
@@ -23,12 +23,12 @@ fn word_at<E: Entry>(entries: &[E], i: usize) -> Word
 // Packs entries to a block: word i is the word of entry i, and the words after the last entry are zero. A block has 128
 // words, and entries past these are left out.
 pub fn pack_block<E: Entry>(entries: &[E]) -> [u8; BLOCK_SIZE]
-    ensures bytes { result ≡ block_of (map E.Entry.packed entries.now) }
-    ensures back { (p : ℕ) → length entries.now ≤ 128 → AllByRecursion (E.Entry.valid p) entries.now → UnpacksTo (E.Entry.reads p) entries.now result }
+    ensures bytes { result ≡ block_of (map E.packed entries.now) }
+    ensures back { (p : ℕ) → length entries.now ≤ 128 → AllByRecursion (E.valid p) entries.now → UnpacksTo (E.reads p) entries.now result }
 {
     let words: [[u8; WORD_SIZE]; WORDS_PER_BLOCK] = array::from_fn(
         |i| -> [u8; WORD_SIZE]
-            ensures { result ≡ bytes_of (slice_index (map E.Entry.packed entries.entry.now) i) }
+            ensures { result ≡ bytes_of (slice_index (map E.packed entries.entry.now) i) }
         { word_at(entries, i).to_bytes() },
     );
     let mut block = [0u8; BLOCK_SIZE];
@@ -38,8 +38,8 @@ pub fn pack_block<E: Entry>(entries: &[E]) -> [u8; BLOCK_SIZE]
 
 // Takes up word k: as entry k, or as a zero word after the last entry. None if it is bad.
 fn take_word<E: Entry + Copy>(word: Word, k: usize, physical: u16, out: &mut [E]) -> Option<()>
-    ensures value { is_some result ≡ good_word (E.Entry.reads physical) (length out.old) k word.bits }
-    ensures entries { out.new ≡ on_entry (E.Entry.reads physical word.bits) (slice_set out.old k) out.old }
+    ensures value { is_some result ≡ good_word (E.reads physical) (length out.old) k word.bits }
+    ensures entries { out.new ≡ on_entry (E.reads physical word.bits) (slice_set out.old k) out.old }
 {
     if k >= out.len() {
         return word.is_blank().then_some(());
@@ -57,10 +57,10 @@ pub fn unpack_block<E: Entry + Copy>(
     physical: u16,
     out: &mut [E],
 ) -> Result<(), Fault>
-    ensures value { result ≡ unpack_answer card_block (E.Entry.reads physical) (length out.old) bytes.now }
-    ensures entries { out.new ≡ unpacked (E.Entry.reads physical) bytes.now out.old }
-    ensures first { Judged card_block (E.Entry.reads physical) (length out.old) (words bytes.now) result }
-    ensures back { result ≡ Ok tt → length out.old ≤ 128 → AllByRecursion (E.Entry.valid physical) out.new × (bytes.now ≡ block_of (map E.Entry.packed out.new)) }
+    ensures value { result ≡ unpack_answer card_block (E.reads physical) (length out.old) bytes.now }
+    ensures entries { out.new ≡ unpacked (E.reads physical) bytes.now out.old }
+    ensures first { Judged card_block (E.reads physical) (length out.old) (words bytes.now) result }
+    ensures back { result ≡ Ok tt → length out.old ≤ 128 → AllByRecursion (E.valid physical) out.new × (bytes.now ≡ block_of (map E.packed out.new)) }
 {
     for (k, word) in (Words { left: bytes }).enumerate() {
         take_word(word, k, physical, out).ok_or(Fault::BadWord {

@@ -1,6 +1,5 @@
 use Rattle.std.proofs.Common.{◌≡◌, ◌^◌, ◌<◌, [], map, get_or, Some, ◌∙◌, arith, rules}
 use Rattle.std.proofs.ByRecursion.{All-weaker}
-use Rattle.tables.specs.Tables.{block_of}
 use Rattle.tables.specs.Words.{bytes_of}
 use Rattle.tables.proofs.Packing.{joined_runs, made_by}
 use Rattle.tables.proofs.RoundTrips.{block_unpacks}
