@@ -23,6 +23,7 @@ fn print_word<R: Rule>(rule: &R, text: &str) -> Word
 }
 
 fn main(rt: HostRuntime) -> io::Result<()> {
+    // Two counts beside a loop that prints and may fail: a fold would carry both through each step, and be longer.
     let mut published: u64 = 0;
     let mut found: u64 = 0;
     for line in rt.lines(rt.alloc()) {

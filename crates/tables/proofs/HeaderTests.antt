@@ -1,5 +1,5 @@
 -- A packed header passes the tests of an opening, and a header that passes them is a packed one.
-use Rattle.std.proofs.Common.{◌≡◌, ℕ, ◌^◌, ◌<◌, Bool, true, false, cond, eqb, List, [], ◌∷◌, ◌++◌, length, replicate, None, Ok, Err, Result, sym, refl, ap, ◌∙◌, subst, ap₂, arith, eq-eqb}
+use Rattle.std.proofs.Common.{◌≡◌, ℕ, ◌^◌, ◌<◌, Bool, true, false, cond, ◌==◌, List, [], ◌∷◌, ◌++◌, length, replicate, None, Ok, Err, Result, sym, refl, ap, ◌∙◌, subst, ap₂, arith, eq-eqb}
 use Rattle.std.proofs.lemmas.Bool.{eqb-true}
 use Rattle.std.specs.List.{AllByRecursion}
 use Rattle.std.specs.Result.{result_and}
@@ -32,7 +32,7 @@ tail_of ws = unless_bad 0 (first_bad (whole_read 0) 4 0 ws)
 pub packed_passes : (s : Shape) (rule : ℕ) (bs : List ℕ) → s.logical < 2 ^ 32 → s.physical < 2 ^ 32 → rule < 2 ^ 32 → bs ≡ block_of (header_words s rule) → ValidShape s → header_read rule (words bs) ≡ Ok s
 packed_passes s rule bs l p r e z =
     let ws : words bs ≡ header_words s rule ++ replicate 124 0 = ap words e ∙ words_block (header_words s rule) (omega arith) (omega arith, (l, (p, (r, tt)))) in
-    let n : eqb rule rule ≡ true = eq-eqb rule rule refl in
+    let n : (rule == rule) ≡ true = eq-eqb rule rule refl in
     ap (header_read rule) ws ∙ simp (z.0, z.1, n)
 
 both_passed : {T U : Type 0} (r : Result T Fault) (q : Result U Fault) (x : U) → result_and r q ≡ Ok x → (t : T) × (r ≡ Ok t) × (q ≡ Ok x)
@@ -53,12 +53,12 @@ passing_words rule (a ∷ b ∷ []) s l e = absurd (omega arith)
 passing_words rule (a ∷ b ∷ c ∷ []) s l e = absurd (omega arith)
 passing_words rule (a ∷ b ∷ c ∷ d ∷ ws) s l e =
     let all = a ∷ b ∷ c ∷ d ∷ ws in
-    let v = both_passed (test (eqb a 1) Version) _ s e in
+    let v = both_passed (test (a == 1) Version) _ s e in
     let h = both_passed (shape_of Table b c) _ s v.2 in
-    let n = both_passed (test (eqb d rule) RuleNumber) _ s h.2 in
+    let n = both_passed (test (d == rule) RuleNumber) _ s h.2 in
     let t = both_passed (tail_of all) _ s n.2 in
-    let one : a ≡ 1 = eqb-true a 1 (passed (eqb a 1) Version v.0 v.1) in
-    let number : d ≡ rule = eqb-true d rule (passed (eqb d rule) RuleNumber n.0 n.1) in
+    let one : a ≡ 1 = eqb-true a 1 (passed (a == 1) Version v.0 v.1) in
+    let number : d ≡ rule = eqb-true d rule (passed (d == rule) RuleNumber n.0 n.1) in
     let none : first_bad (whole_read 0) 4 4 ws ≡ None = accepted 0 (first_bad (whole_read 0) 4 0 all) (tail_of all) refl t.1 in
     let same : s ≡ shape b c = sym (ok_same (shape b c) s t.2) in
     let sizes = shape_is (sized b) (sized c) Table b c h.0 h.1 in

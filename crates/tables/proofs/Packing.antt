@@ -1,5 +1,5 @@
 -- The words of entries written to a block one by one.
-use Rattle.std.proofs.Common.{◌≡◌, ℕ, zero, suc, ◌+◌, ◌-◌, ◌*◌, ◌<◌, ◌≤◌, List, [], ◌∷◌, ◌++◌, length, get_or, take, replicate, sym, refl, ap, subst, inl, inr, arith}
+use Rattle.std.proofs.Common.{◌≡◌, ℕ, zero, suc, ◌+◌, ◌-◌, ◌*◌, ◌<◌, ◌≤◌, List, [], ◌∷◌, ◌++◌, length, slice_index, slice_index_or, take, replicate, sym, refl, ap, subst, inl, inr, arith}
 use Rattle.std.proofs.lemmas.Bool.{cases_lt}
 use denote.Param.Members.{Mut}
 use Rattle.std.specs.Array.{IsFromFnResultFrom}
@@ -28,7 +28,7 @@ run_word : (run rest xs : List ℕ) (w n k : ℕ) → n ≡ suc (suc (suc (suc k
 run_word run rest xs w n k z f r = simp (z, f) (ap (λ ys. bytes_of w ++ ys) r)
 
 -- Runs of four bytes, each of them the bytes of a word, blank after the last of the words ws.
-pub joined_runs : (runs : List (List ℕ)) (ws : List ℕ) (n m : ℕ) → n ≡ 4 * length runs → n ≤ m → ((i : ℕ) → i < length runs → get_or runs i [] ≡ bytes_of (get_or ws i 0))
+pub joined_runs : (runs : List (List ℕ)) (ws : List ℕ) (n m : ℕ) → n ≡ 4 * length runs → n ≤ m → ((i : ℕ) → i < length runs → slice_index_or runs i [] ≡ bytes_of (slice_index ws i))
     → flat_map (λ run. run) runs ≡ take n (flat_map bytes_of ws ++ replicate m 0)
 joined_runs [] ws n m e l h = let z : n ≡ 0 = omega arith in simp z
 joined_runs (run ∷ runs) [] n m e l h =
@@ -38,11 +38,11 @@ joined_runs (run ∷ runs) (w ∷ ws) n m e l h =
 
 -- An array that a closure made which each call leaves as it was: each element is what the call at its place says.
 pub made_by : {F B : Type 0} (g : Mut F (ℕ × Unit {0}) B) (P : ℕ → B → Type 0) (f : F) → ((i : ℕ) (r : B) (k : F) → Called g f (i, tt) r k → P i r × (k ≡ f))
-    → (ys : List B) (d : B) (n a : ℕ) → IsFromFnResultFrom g f ys a n → (i : ℕ) → a ≤ i → i < a + n → P i (get_or ys i d)
+    → (ys : List B) (d : B) (n a : ℕ) → IsFromFnResultFrom g f ys a n → (i : ℕ) → a ≤ i → i < a + n → P i (slice_index_or ys i d)
 made_by g P f h ys d zero a made i lo hi = absurd (omega arith)
 made_by g P f h ys d (suc n) a made i lo hi =
     let s = h a made.1 made.0 made.3 in
     elim (cases_lt a i) [
       | inl lt ↦ made_by g P f h ys d n (a + 1) (subst (λ q. IsFromFnResultFrom g q ys (a + 1) n) s.1 made.4) i (omega arith) (omega arith)
-      | inr le ↦ let e : a ≡ i = omega arith in subst (λ k. P k (get_or ys k d)) e (subst (λ y. P a y) (sym (made.2.1 d)) s.0)
+      | inr le ↦ let e : a ≡ i = omega arith in subst (λ k. P k (slice_index_or ys k d)) e (subst (λ y. P a y) (sym (made.2.1 d)) s.0)
     ]

@@ -1,5 +1,5 @@
 -- Entries to a block and back, a block to entries and back, and what the answer of unpacking says.
-use Rattle.std.proofs.Common.{◌≡◌, ℕ, zero, suc, ◌+◌, ◌-◌, ◌*◌, ◌^◌, ◌<◌, ◌≤◌, true, false, cond, List, [], ◌∷◌, ◌++◌, map, length, get_or, replicate, is_some, Some, None, Ok, Option, Result, sym, refl, ap, ◌∙◌, subst, ap₂, arith}
+use Rattle.std.proofs.Common.{◌≡◌, ℕ, zero, suc, ◌+◌, ◌-◌, ◌*◌, ◌^◌, ◌<◌, ◌≤◌, true, false, cond, List, [], ◌∷◌, ◌++◌, map, length, slice_index, replicate, is_some, Some, None, Ok, Option, Result, sym, refl, ap, ◌∙◌, subst, ap₂, arith}
 use Rattle.std.proofs.ByRecursion.{All-map, All-from_get_or}
 use Rattle.std.proofs.lemmas.List.{length-map}
 use Rattle.std.proofs.lemmas.Bool.{eqb-true}
@@ -9,7 +9,7 @@ use Rattle.cards.specs.declared.fault.Fault.TheVariants.{BadWord}
 use Rattle.tables.specs.Words.{bytes_of, words}
 use Rattle.tables.specs.Tables.{block_of, good_word, first_bad, unless_bad, unpack_answer, Judged, on_entry, entries_after, unpacked, UnpacksTo}
 use Rattle.tables.proofs.Packing.{block_is, joined-append}
-use Rattle.tables.proofs.Unpacking.{good_before, good_after}
+use Rattle.tables.proofs.Unpacking.{none_filled, good_before, good_after}
 use Rattle.tables.proofs.WordBytes.{words_joined, joined_words, words_below, length-words, words_zeros, joined-zeros}
 
 pub words_block : (ws : List ℕ) → length ws ≤ 128 → AllByRecursion (λ w. w < 2 ^ 32) ws → words (block_of ws) ≡ ws ++ replicate (128 - length ws) 0
@@ -27,14 +27,10 @@ module _ {E : Type 0} (packed : E → ℕ) (read : ℕ → Option E) where
   zero_tail (suc m) n k h =
       ap (λ t. cond t (first_bad read n (k + 1) (replicate m 0)) (Some k)) (good_after read n k 0 h) ∙ zero_tail m n (k + 1) (omega arith)
 
-  none_filled : (ws : List ℕ) → entries_after read ws [] ≡ []
-  none_filled [] = refl
-  none_filled (w ∷ ws) = refl
-
   -- Packed entries, from number k on, unpack to themselves.
   unpack_packed : (es old : List E) (m n k : ℕ) → n ≡ k + length es → length old ≡ length es → AllByRecursion (λ e. read (packed e) ≡ Some e) es
       → (first_bad read n k (map packed es ++ replicate m 0) ≡ None) × (entries_after read (map packed es ++ replicate m 0) old ≡ es)
-  unpack_packed [] [] m n k e l h = (zero_tail m n k (omega arith), none_filled (replicate m 0))
+  unpack_packed [] [] m n k e l h = (zero_tail m n k (omega arith), none_filled read (replicate m 0))
   unpack_packed [] (o ∷ old) m n k e l h = absurd (omega arith)
   unpack_packed (x ∷ es) [] m n k e l h = absurd (omega arith)
   unpack_packed (x ∷ es) (o ∷ old) m n k e l h =
@@ -109,21 +105,21 @@ below_suc P n z s (suc m) h = s m (omega arith)
 module _ {E : Type 0} (read : ℕ → Option E) (n : ℕ) where
   -- What the first bad word is, words counted from k on.
   abbrev From : ℕ → List ℕ → Option ℕ → Type 0
-  From k ws None = (j : ℕ) → j < length ws → good_word read n (k + j) (get_or ws j 0) ≡ true
-  From k ws (Some b) = (j : ℕ) × (b ≡ k + j) × (j < length ws) × (good_word read n (k + j) (get_or ws j 0) ≡ false) × ((m : ℕ) → m < j → good_word read n (k + m) (get_or ws m 0) ≡ true)
+  From k ws None = (j : ℕ) → j < length ws → good_word read n (k + j) (slice_index ws j) ≡ true
+  From k ws (Some b) = (j : ℕ) × (b ≡ k + j) × (j < length ws) × (good_word read n (k + j) (slice_index ws j) ≡ false) × ((m : ℕ) → m < j → good_word read n (k + m) (slice_index ws m) ≡ true)
 
   at_number : (i j v : ℕ) → i ≡ j → good_word read n i v ≡ good_word read n j v
   at_number i j v e = ap (λ k. good_word read n k v) e
 
   from_more : (k w : ℕ) (ws : List ℕ) (r : Option ℕ) → good_word read n k w ≡ true → From (k + 1) ws r → From k (w ∷ ws) r
   from_more k w ws None head f =
-      below_suc (λ m. good_word read n (k + m) (get_or (w ∷ ws) m 0) ≡ true) (length ws) (at_number (k + 0) k w (omega arith) ∙ head) (λ m h. at_number (k + suc m) (k + 1 + m) (get_or ws m 0) (omega arith) ∙ f m h)
+      below_suc (λ m. good_word read n (k + m) (slice_index (w ∷ ws) m) ≡ true) (length ws) (at_number (k + 0) k w (omega arith) ∙ head) (λ m h. at_number (k + suc m) (k + 1 + m) (slice_index ws m) (omega arith) ∙ f m h)
   from_more k w ws (Some b) head f = (
     suc f.0,
     omega arith,
     omega arith,
-    at_number (k + suc f.0) (k + 1 + f.0) (get_or ws f.0 0) (omega arith) ∙ f.3,
-    below_suc (λ m. good_word read n (k + m) (get_or (w ∷ ws) m 0) ≡ true) f.0 (at_number (k + 0) k w (omega arith) ∙ head) (λ m h. at_number (k + suc m) (k + 1 + m) (get_or ws m 0) (omega arith) ∙ f.4 m h),
+    at_number (k + suc f.0) (k + 1 + f.0) (slice_index ws f.0) (omega arith) ∙ f.3,
+    below_suc (λ m. good_word read n (k + m) (slice_index (w ∷ ws) m) ≡ true) f.0 (at_number (k + 0) k w (omega arith) ∙ head) (λ m h. at_number (k + suc m) (k + 1 + m) (slice_index ws m) (omega arith) ∙ f.4 m h),
   )
 
   none_below : (P : ℕ → Type 0) (m : ℕ) → m < 0 → P m
@@ -134,14 +130,14 @@ module _ {E : Type 0} (read : ℕ → Option E) (n : ℕ) where
   from_first (w ∷ ws) k =
       elim (good_word read n k w) as (λ t. good_word read n k w ≡ t → From k (w ∷ ws) (cond t (first_bad read n (k + 1) ws) (Some k))) [
         | true ↦ λ t. from_more k w ws (first_bad read n (k + 1) ws) t (from_first ws (k + 1))
-        | false ↦ λ t. (0, omega arith, omega arith, at_number (k + 0) k w (omega arith) ∙ t, none_below (λ m. good_word read n (k + m) (get_or (w ∷ ws) m 0) ≡ true))
+        | false ↦ λ t. (0, omega arith, omega arith, at_number (k + 0) k w (omega arith) ∙ t, none_below (λ m. good_word read n (k + m) (slice_index (w ∷ ws) m) ≡ true))
       ] refl
 
   from_zero : (b : ℕ) (ws : List ℕ) (r : Option ℕ) → From 0 ws r → Judged b read n ws (unless_bad b r)
-  from_zero b ws None f = λ j h. at_number j (0 + j) (get_or ws j 0) (omega arith) ∙ f j h
+  from_zero b ws None f = λ j h. at_number j (0 + j) (slice_index ws j) (omega arith) ∙ f j h
   from_zero b ws (Some k) f =
       let e : k ≡ f.0 = omega arith in
-      (f.0, ap (λ j. BadWord b j) e, f.2, at_number f.0 (0 + f.0) (get_or ws f.0 0) (omega arith) ∙ f.3, λ j h. at_number j (0 + j) (get_or ws j 0) (omega arith) ∙ f.4 j h)
+      (f.0, ap (λ j. BadWord b j) e, f.2, at_number f.0 (0 + f.0) (slice_index ws f.0) (omega arith) ∙ f.3, λ j h. at_number j (0 + j) (slice_index ws j) (omega arith) ∙ f.4 j h)
 
   pub judged : (b : ℕ) (ws : List ℕ) (r : Result (Unit {0}) Fault) → r ≡ unless_bad b (first_bad read n 0 ws) → Judged b read n ws r
   judged b ws r e = subst (Judged b read n ws) (sym e) (from_zero b ws (first_bad read n 0 ws) (from_first ws 0))
@@ -154,7 +150,7 @@ accepted b (Some k) r e ok = let z : ◌≡◌ {A = ℕ} 0 1 = cc in absurd (ome
 -- What an answer and entries as unpacking gives them tell: the first bad word is refused; and if none is bad, the entries
 -- are valid and the block is theirs.
 module _ {E : Type 0} (packed : E → ℕ) (read : ℕ → Option E) (valid : E → Type 0) (accepts : (w : ℕ) (e : E) → w < 2 ^ 32 → read w ≡ Some e → valid e)
-    (packs : (w : ℕ) (e : E) → w < 2 ^ 32 → read w ≡ Some e → packed e ≡ w) (b : ℕ) (bytes : List ℕ) (whole : length bytes ≡ 512) (fits : (i : ℕ) → get_or bytes i 0 < 256) (old : List E) where
+    (packs : (w : ℕ) (e : E) → w < 2 ^ 32 → read w ≡ Some e → packed e ≡ w) (b : ℕ) (bytes : List ℕ) (whole : length bytes ≡ 512) (fits : (i : ℕ) → slice_index bytes i < 256) (old : List E) where
   pub record Told (r : Result (Unit {0}) Fault) (out : List E) : Type 0 where
     pub value : r ≡ unpack_answer b read (length old) bytes
     pub entries : out ≡ unpacked read bytes old

@@ -1,38 +1,38 @@
 -- The words of a block taken up one by one.
-use Rattle.std.proofs.Common.{◌≡◌, ℕ, ◌+◌, ◌<◌, ◌≤◌, Bool, true, false, cond, eqb, List, [], ◌∷◌, ◌++◌, length, get_or, take, drop, set, is_some, Some, None, Option, sym, refl, ap, ◌∙◌, subst, inl, inr, arith}
+use Rattle.std.proofs.Common.{◌≡◌, ℕ, ◌+◌, ◌<◌, ◌≤◌, Bool, true, false, cond, ◌==◌, List, [], ◌∷◌, ◌++◌, length, slice_index_or, take, drop, slice_set, is_some, Some, None, Option, sym, refl, ap, ◌∙◌, subst, inl, inr, arith}
 use Rattle.std.proofs.lemmas.List.{take-append-drop, append_assoc, append-nil, take_all, drop_all, drop_more, drop-set-lt, take_more_set, set_past, length-set}
 use Rattle.std.proofs.lemmas.Bool.{cases_lt, lt-ltb, le-ltb}
 use Rattle.tables.specs.Tables.{good_word, first_bad, on_entry, entries_after}
 
 module _ {E : Type 0} where
-  pub none_to_set : (r : Option E) (out : List E) (k : ℕ) → length out ≤ k → out ≡ on_entry r (set out k) out
+  pub none_to_set : (r : Option E) (out : List E) (k : ℕ) → length out ≤ k → out ≡ on_entry r (slice_set out k) out
   none_to_set None out k past = refl
   none_to_set (Some e) out k past = sym (set_past out k e past)
 
-  pub length_taken : (r : Option E) (out : List E) (k : ℕ) → length (on_entry r (set out k) out) ≡ length out
+  pub length_taken : (r : Option E) (out : List E) (k : ℕ) → length (on_entry r (slice_set out k) out) ≡ length out
   length_taken None out k = refl
   length_taken (Some e) out k = length-set out k e
 
   drop_one : (xs : List E) (i : ℕ) → i < length xs → (x : E) × (drop i xs ≡ x ∷ drop (i + 1) xs)
   drop_one [] i h = absurd (omega arith)
-  drop_one (x ∷ xs) i h = (get_or (x ∷ xs) i x, drop_more (x ∷ xs) i x h)
+  drop_one (x ∷ xs) i h = (slice_index_or (x ∷ xs) i x, drop_more (x ∷ xs) i x h)
 
 module _ {E : Type 0} (read : ℕ → Option E) where
   pub good_before : (n k w : ℕ) → k < n → good_word read n k w ≡ is_some (read w)
-  good_before n k w lt = ap (λ t. cond t (is_some (read w)) (eqb w 0)) (lt-ltb k n lt)
+  good_before n k w lt = ap (λ t. cond t (is_some (read w)) (w == 0)) (lt-ltb k n lt)
 
-  pub good_after : (n k w : ℕ) → n ≤ k → good_word read n k w ≡ eqb w 0
-  good_after n k w le = ap (λ t. cond t (is_some (read w)) (eqb w 0)) (le-ltb k n le)
+  pub good_after : (n k w : ℕ) → n ≤ k → good_word read n k w ≡ (w == 0)
+  good_after n k w le = ap (λ t. cond t (is_some (read w)) (w == 0)) (le-ltb k n le)
 
-  none_filled : (ws : List ℕ) → entries_after read ws [] ≡ []
+  pub none_filled : (ws : List ℕ) → entries_after read ws [] ≡ []
   none_filled [] = refl
   none_filled (w ∷ ws) = refl
 
   -- word w is number k, and ws are the words after it
   module _ (out : List E) (k w : ℕ) (ws : List ℕ) where
     abbrev Kept : Bool → Option E → Type 0
-    Kept true r = take (k + 1) (on_entry r (set out k) out) ++ entries_after read ws (drop (k + 1) (on_entry r (set out k) out)) ≡ take k out ++ entries_after read (w ∷ ws) (drop k out)
-    Kept false r = on_entry r (set out k) out ≡ take k out ++ entries_after read (w ∷ ws) (drop k out)
+    Kept true r = take (k + 1) (on_entry r (slice_set out k) out) ++ entries_after read ws (drop (k + 1) (on_entry r (slice_set out k) out)) ≡ take k out ++ entries_after read (w ∷ ws) (drop k out)
+    Kept false r = on_entry r (slice_set out k) out ≡ take k out ++ entries_after read (w ∷ ws) (drop k out)
 
     before_last : (r : Option E) → read w ≡ r → k < length out → Kept (is_some r) r
     before_last None is lt =
@@ -40,7 +40,7 @@ module _ {E : Type 0} (read : ℕ → Option E) where
         sym (ap (λ xs. take k out ++ entries_after read (w ∷ ws) xs) o.1 ∙ ap (λ q. take k out ++ on_entry q (λ e. e ∷ entries_after read ws (drop (k + 1) out)) (o.0 ∷ drop (k + 1) out)) is ∙ ap (λ xs. take k out ++ xs) (sym o.1) ∙ take-append-drop k out)
     before_last (Some e) is lt =
         let o = drop_one out k lt in
-        ap (λ xs. xs ++ entries_after read ws (drop (k + 1) (set out k e))) (take_more_set out k e lt)
+        ap (λ xs. xs ++ entries_after read ws (drop (k + 1) (slice_set out k e))) (take_more_set out k e lt)
         ∙ ap (λ xs. (take k out ++ e ∷ []) ++ entries_after read ws xs) (drop-set-lt (k + 1) out k e (omega arith))
         ∙ append_assoc (take k out) (e ∷ []) (entries_after read ws (drop (k + 1) out))
         ∙ sym (ap (λ xs. take k out ++ entries_after read (w ∷ ws) xs) o.1 ∙ ap (λ q. take k out ++ on_entry q (λ x. x ∷ entries_after read ws (drop (k + 1) out)) (o.0 ∷ drop (k + 1) out)) is)
@@ -78,7 +78,7 @@ module _ {E : Type 0} (read : ℕ → Option E) where
   pub end : (ws : List ℕ) (old : List E) (k : ℕ) (out : List E) → Reached ws old k [] out → (first_bad read (length old) 0 ws ≡ None) × (out ≡ entries_after read ws old)
   end ws old k out r = (sym r.bad, sym (take-append-drop k out) ∙ r.entries)
 
-  module _ (ws : List ℕ) (old : List E) (k w : ℕ) (left : List ℕ) (out : List E) (r : Reached ws old k (w ∷ left) out) (new : List E) (taken : new ≡ on_entry (read w) (set out k) out) where
+  module _ (ws : List ℕ) (old : List E) (k w : ℕ) (left : List ℕ) (out : List E) (r : Reached ws old k (w ∷ left) out) (new : List E) (taken : new ≡ on_entry (read w) (slice_set out k) out) where
     same_good : (t : Bool) → t ≡ good_word read (length out) k w → good_word read (length old) k w ≡ t
     same_good t e = ap (λ n. good_word read n k w) (sym r.as_many) ∙ sym e
 

@@ -44,6 +44,7 @@ fn take_word<E: Entry + Copy>(word: Word, k: usize, physical: u16, out: &mut [E]
     if k >= out.len() {
         return word.is_blank().then_some(());
     }
+    // By its index: what stands in a slice after a write through `get_mut` is not known to the proof.
     out[k] = E::unpack(word, physical)?;
     Some(())
 }

@@ -1,4 +1,4 @@
-use Rattle.std.proofs.Common.{◌≡◌, ◌^◌, ◌<◌, [], map, get_or, Some, ◌∙◌, arith, rules}
+use Rattle.std.proofs.Common.{◌≡◌, ◌^◌, ◌<◌, [], map, slice_index, Some, ◌∙◌, arith, rules}
 use Rattle.std.proofs.ByRecursion.{All-weaker}
 use Rattle.tables.specs.Words.{bytes_of}
 use Rattle.tables.proofs.Packing.{joined_runs, made_by}
@@ -12,7 +12,7 @@ returns-clause-bytes g c =
     let copied : c.copy_from_slice.new.self ≡ c.as_flattened.result.now = search rules in
     copied ∙ c.as_flattened.ensures.value
     ∙ joined_runs c.from_fn-words.result ws 512 512 (omega (arith, made.long)) (omega arith)
-    (λ i lt. made_by _ (λ k run. run ≡ bytes_of (get_or ws k 0)) _ (λ k run f h. search rules) c.from_fn-words.result [] 128 0 made.each i (omega arith) (omega (arith, made.long)))
+    (λ i lt. made_by _ (λ k run. run ≡ bytes_of (slice_index ws k)) _ (λ k run f h. search rules) c.from_fn-words.result [] 128 0 made.each i (omega arith) (omega (arith, made.long)))
 
 pub returns-clause-back : goal.returns-clause-back
 returns-clause-back g c =
