@@ -1,9 +1,17 @@
 -- Words and their bytes, there and back.
-use Rattle.std.proofs.Common.{◌≡◌, ℕ, zero, suc, ◌+◌, ◌-◌, ◌*◌, ◌/◌, ◌%◌, ◌^◌, ◌<◌, List, [], ◌∷◌, ◌++◌, length, replicate, sym, refl, ap, ◌∙◌, ap₂, mod-eq_of_lt, arith}
+use Rattle.std.proofs.Common.{◌≡◌, ℕ, zero, suc, ◌+◌, ◌-◌, ◌*◌, ◌/◌, ◌%◌, ◌^◌, ◌<◌, ◌≤◌, List, [], ◌∷◌, ◌++◌, length, slice_index, drop, replicate, sym, refl, ap, ◌∙◌, ap₂, mod-eq_of_lt, arith}
 use native.Mathlib.Nat.{div-div-eq-div-mul}
 use Rattle.std.proofs.lemmas.Nat.{div-add-mod', mod-mul-add, div_below}
 use Rattle.std.specs.List.{flat_map, AllByRecursion}
 use Rattle.tables.specs.Words.{bytes_of, word_from, words}
+
+-- the first word of a run of bytes, and the words after it
+pub words_four : (xs : List ℕ) → 4 ≤ length xs → words xs ≡ word_from (slice_index xs 0) (slice_index xs 1) (slice_index xs 2) (slice_index xs 3) ∷ words (drop 4 xs)
+words_four [] h = absurd (omega arith)
+words_four (a ∷ []) h = absurd (omega arith)
+words_four (a ∷ b ∷ []) h = absurd (omega arith)
+words_four (a ∷ b ∷ c ∷ []) h = absurd (omega arith)
+words_four (a ∷ b ∷ c ∷ d ∷ rest) h = refl
 
 -- A quotient by 65536 or 16777216 in steps of 256.
 by_two : (w : ℕ) → w / 65536 ≡ w / 256 / 256
