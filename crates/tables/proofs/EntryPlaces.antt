@@ -1,5 +1,6 @@
 -- Each entry of each table is in one table block, and in no other.
-use Rattle.std.proofs.Common.{◌≡◌, ℕ, ◌+◌, ◌-◌, ◌/◌, ◌<◌, ◌≤◌, Some, None, Option, sym, refl, ap, ◌∙◌, subst, inl, inr, arith}
+use Rattle.std.proofs.Common.{◌≡◌, ℕ, ◌+◌, ◌-◌, ◌/◌, ◌<◌, ◌≤◌, Some, None, sym, refl, ap, ◌∙◌, subst, inl, inr, arith}
+use Rattle.std.proofs.lemmas.Option.{same_Some}
 use Rattle.std.proofs.lemmas.Bool.{cases_lt, lt-ltb, le-ltb}
 use Rattle.tables.specs.declared.layout.Shape.{Shape}
 use Rattle.tables.specs.declared.layout.Table.{Table}
@@ -44,14 +45,11 @@ module _ (s : Shape) where
     ]
   ]
 
-  some_same : (x y : TableBlock) → ◌≡◌ {A = Option TableBlock} (Some x) (Some y) → x ≡ y
-  some_same x y e = cc
-
   -- What holds an entry of a table is a block of that table.
   holder : (t : Table) (i n : ℕ) → Holds s t i n → Among s t n × ((part s t n).first ≤ i) × (i < (part s t n).first + (part s t n).entries)
   holder t i n h =
       let u = in_table n h.block h.is in
-      let b : h.block ≡ part s u.0 n = some_same h.block (part s u.0 n) (sym h.is ∙ at_table u.0 n u.1) in
+      let b : h.block ≡ part s u.0 n = same_Some h.block (part s u.0 n) (sym h.is ∙ at_table u.0 n u.1) in
       let same : u.0 ≡ t = sym (ap (λ x. x.table) b) ∙ h.of_table in
       subst (λ t. Among s t n × ((part s t n).first ≤ i) × (i < (part s t n).first + (part s t n).entries)) same
       (u.1, subst (λ x. x.first ≤ i) b h.from, subst (λ x. i < x.first + x.entries) b h.to)

@@ -103,9 +103,6 @@ passed : (t : Bool) (f : Fault) (u : Unit {0}) → test t f ≡ Ok u → t ≡ t
 passed true f u e = refl
 passed false f u e = let z : ◌≡◌ {A = ℕ} 0 1 = cc in absurd (omega arith)
 
-ok_same : (x y : Shape) → ◌≡◌ {A = Result Shape Fault} (Ok x) (Ok y) → x ≡ y
-ok_same x y e = cc
-
 passing_words : (rule : ℕ) (ws : List ℕ) (s : Shape) → length ws ≡ 128 → header_read rule ws ≡ Ok s → ValidShape s × (ws ≡ header_words s rule ++ replicate 124 0)
 passing_words rule [] s l e = absurd (omega arith)
 passing_words rule (a ∷ []) s l e = absurd (omega arith)
@@ -120,7 +117,8 @@ passing_words rule (a ∷ b ∷ c ∷ d ∷ ws) s l e =
     let one : a ≡ 1 = eqb-true a 1 (passed (a == 1) Version v.0 v.1) in
     let number : d ≡ rule = eqb-true d rule (passed (d == rule) RuleNumber n.0 n.1) in
     let none : first_bad (whole_read 0) 4 4 ws ≡ None = accepted 0 (first_bad (whole_read 0) 4 0 all) (tail_of all) refl t.1 in
-    let same : s ≡ shape b c = sym (ok_same (shape b c) s t.2) in
+    let ok = t.2 in
+    let same : s ≡ shape b c = cc in
     let sizes = shape_is (sized b) (sized c) Table b c h.0 h.1 in
     let many : length ws ≡ 124 = omega arith in
     let rest : ws ≡ replicate 124 0 = zeros_after whole_word (whole_read 0) ws 4 4 (omega arith) none ∙ ap (λ k. replicate k 0) many in

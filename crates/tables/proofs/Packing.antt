@@ -13,10 +13,6 @@ pub length-joined : (ws : List ℕ) → length (flat_map bytes_of ws) ≡ 4 * le
 length-joined [] = refl
 length-joined (w ∷ ws) = let r = length-joined ws in omega arith
 
-pub joined-append : (vs ws : List ℕ) → flat_map bytes_of (vs ++ ws) ≡ flat_map bytes_of vs ++ flat_map bytes_of ws
-joined-append [] ws = refl
-joined-append (v ∷ vs) ws = ap (λ r. bytes_of v ++ r) (joined-append vs ws)
-
 pub block_is : (ws : List ℕ) → length ws ≤ 128 → block_of ws ≡ flat_map bytes_of ws ++ replicate (512 - 4 * length ws) 0
 block_is ws few = content_filled (flat_map bytes_of ws) _ (omega (arith, length-joined ws)) (ap (λ n. 512 - n) (sym (length-joined ws)))
 

@@ -3,12 +3,13 @@ use Rattle.std.proofs.Common.{◌≡◌, ℕ, zero, suc, ◌+◌, ◌-◌, ◌*�
 use Rattle.std.proofs.ByRecursion.{All-map, All-from_get_or}
 use Rattle.std.proofs.lemmas.List.{length-map}
 use Rattle.std.proofs.lemmas.Bool.{eqb-true}
+use Rattle.std.proofs.lemmas.Grind.{flat_map-append}
 use Rattle.std.specs.List.{flat_map, AllByRecursion}
 use Rattle.cards.specs.declared.fault.Fault.{Fault}
 use Rattle.cards.specs.declared.fault.Fault.TheVariants.{BadWord}
 use Rattle.tables.specs.Words.{bytes_of, words}
 use Rattle.tables.specs.Tables.{block_of, good_word, first_bad, unless_bad, unpack_answer, Judged, on_entry, entries_after, unpacked, UnpacksTo}
-use Rattle.tables.proofs.Packing.{block_is, joined-append}
+use Rattle.tables.proofs.Packing.{block_is}
 use Rattle.tables.proofs.Unpacking.{none_filled, good_before, good_after}
 use Rattle.tables.proofs.WordBytes.{words_joined, joined_words, words_below, length-words, words_zeros, joined-zeros}
 
@@ -18,7 +19,7 @@ words_block ws few small =
 
 pub block_from_words : (ws bs : List ℕ) → length bs ≡ 512 → length ws ≤ 128 → AllByRecursion (λ b. b < 256) bs → words bs ≡ ws ++ replicate (128 - length ws) 0 → bs ≡ block_of ws
 block_from_words ws bs l few h e =
-    sym (joined_words 128 bs (omega arith) h) ∙ ap (flat_map bytes_of) e ∙ joined-append ws _
+    sym (joined_words 128 bs (omega arith) h) ∙ ap (flat_map bytes_of) e ∙ flat_map-append bytes_of ws _
     ∙ ap (λ xs. flat_map bytes_of ws ++ xs) (joined-zeros (128 - length ws) (512 - 4 * length ws) (omega arith)) ∙ sym (block_is ws few)
 
 module _ {E : Type 0} (packed : E → ℕ) (read : ℕ → Option E) where
