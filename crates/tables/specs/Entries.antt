@@ -28,7 +28,7 @@ block_read p w = cond (of_kind kind.Link w && nat_lt (value_of w) p) (Some (phys
 abbrev pub BlockValid : ℕ → PhysicalBlock → Type 0
 BlockValid p b = (b.number < p) × (b.number < 2 ^ 30)
 
--- A count is 0 to 4,095.
+-- A count is 0 to 4,095, and never blank.
 abbrev pub count_word : Count → ℕ
 count_word c = word_of kind.Count c.number
 

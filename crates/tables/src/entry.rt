@@ -56,7 +56,7 @@ pub trait Entry: Sized {
     ghost packs: { (p w : ℕ) (e : Self) → w < 2 ^ 32 → reads p w ≡ Some e → packed e ≡ w };
 }
 
-// An entry that never packs to the zero word, which can then say that there is none.
+// An entry that never packs to the zero word: that word can then say that there is none.
 pub trait NeverBlank: Entry {
     ghost never_blank: { (e : Self) → 0 < Self.packed e };
 }
