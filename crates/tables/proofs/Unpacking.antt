@@ -68,31 +68,37 @@ module _ {E : Type 0} (read : ℕ → Option E) where
     pub bad : first_bad read (length old) k left ≡ first_bad read (length old) 0 ws
     pub entries : take k out ++ entries_after read left (drop k out) ≡ entries_after read ws old
 
-  pub begin : (ws : List ℕ) (old : List E) → Reached ws old 0 ws old
-  begin ws old = record { as_many = refl; bad = refl; entries = refl }
+  pub begin : (ws : List ℕ) (old : List E) (k : ℕ) (left : List ℕ) → k ≡ 0 → left ≡ ws → Reached ws old k left old
+  begin ws old k left none all =
+      subst (λ xs. Reached ws old k xs old) (sym all) (subst (λ n. Reached ws old n ws old) (sym none) (record { as_many = refl; bad = refl; entries = refl }))
 
-  -- The same, said of another number and of other words left, which are equal to these.
-  pub also : (ws : List ℕ) (old : List E) (j : ℕ) (xs : List ℕ) (out : List E) → Reached ws old j xs out → (k : ℕ) (left : List ℕ) → k ≡ j → xs ≡ left → Reached ws old k left out
-  also ws old j xs out r k left same words = subst (λ n. Reached ws old n left out) (sym same) (subst (λ ys. Reached ws old j ys out) words r)
+  pub end : (ws : List ℕ) (old : List E) (k : ℕ) (left : List ℕ) (out : List E) → Reached ws old k left out → left ≡ [] → (first_bad read (length old) 0 ws ≡ None) × (out ≡ entries_after read ws old)
+  end ws old k left out r none =
+      let last = subst (λ xs. Reached ws old k xs out) none r in
+      (sym last.bad, sym (take-append-drop k out) ∙ last.entries)
 
-  pub end : (ws : List ℕ) (old : List E) (k : ℕ) (out : List E) → Reached ws old k [] out → (first_bad read (length old) 0 ws ≡ None) × (out ≡ entries_after read ws old)
-  end ws old k out r = (sym r.bad, sym (take-append-drop k out) ∙ r.entries)
+  -- the word w is number k, and left are the words after it
+  module _ (ws : List ℕ) (old : List E) (j : ℕ) (xs : List ℕ) (out : List E) (r : Reached ws old j xs out) (k w : ℕ) (left : List ℕ) (number : k ≡ j) (next : xs ≡ w ∷ left) (new : List E)
+      (taken : new ≡ on_entry (read w) (slice_set out k) out) where
+    here : Reached ws old k (w ∷ left) out
+    here = subst (λ n. Reached ws old n (w ∷ left) out) (sym number) (subst (λ ys. Reached ws old j ys out) next r)
 
-  module _ (ws : List ℕ) (old : List E) (k w : ℕ) (left : List ℕ) (out : List E) (r : Reached ws old k (w ∷ left) out) (new : List E) (taken : new ≡ on_entry (read w) (slice_set out k) out) where
     same_good : (t : Bool) → t ≡ good_word read (length out) k w → good_word read (length old) k w ≡ t
     same_good t e = ap (λ n. good_word read n k w) (sym r.as_many) ∙ sym e
 
-    pub go_on : true ≡ good_word read (length out) k w → Reached ws old (k + 1) left new
-    go_on g = record {
-      as_many = ap length taken ∙ length_taken (read w) out k ∙ r.as_many;
-      bad = sym (ap (λ t. cond t (first_bad read (length old) (k + 1) left) (Some k)) (same_good true g)) ∙ r.bad;
-      entries =
-          ap (λ xs. take (k + 1) xs ++ entries_after read left (drop (k + 1) xs)) taken
-          ∙ subst (λ t. Kept out k w left t (read w)) (sym g) (kept out k w left) ∙ r.entries;
-    }
+    pub go_on : true ≡ good_word read (length out) k w → (i : ℕ) → i ≡ k + 1 → Reached ws old i left new
+    go_on g i more =
+        subst (λ n. Reached ws old n left new) (sym more)
+        (record {
+          as_many = ap length taken ∙ length_taken (read w) out k ∙ r.as_many;
+          bad = sym (ap (λ t. cond t (first_bad read (length old) (k + 1) left) (Some k)) (same_good true g)) ∙ here.bad;
+          entries =
+              ap (λ ys. take (k + 1) ys ++ entries_after read left (drop (k + 1) ys)) taken
+              ∙ subst (λ t. Kept out k w left t (read w)) (sym g) (kept out k w left) ∙ here.entries;
+        })
 
     pub stop : false ≡ good_word read (length out) k w → (first_bad read (length old) 0 ws ≡ Some k) × (new ≡ entries_after read ws old)
     stop g = (
-      sym r.bad ∙ ap (λ t. cond t (first_bad read (length old) (k + 1) left) (Some k)) (same_good false g),
-      taken ∙ subst (λ t. Kept out k w left t (read w)) (sym g) (kept out k w left) ∙ r.entries,
+      sym here.bad ∙ ap (λ t. cond t (first_bad read (length old) (k + 1) left) (Some k)) (same_good false g),
+      taken ∙ subst (λ t. Kept out k w left t (read w)) (sym g) (kept out k w left) ∙ here.entries,
     )
