@@ -27,7 +27,7 @@ pub trait Rule {
 }
 
 // Folds a hash of 32 bits to a print of 30: the top two bits, as a number, are mixed into the low thirty.
-// It is all that two rules share. A trait for what hashes would ask each for the same number and hash that it gives `Rule`.
+// The rules share no more: each has its own number and hash, and a trait between them and `Rule` would ask for both again.
 pub fn fold_hash(hash: u32) -> Print
     ensures { result.value ≡ fold_30 hash }
 {
