@@ -19,11 +19,11 @@ pub fn save_and_lose<C: Card, E: Entry + Copy>(
     pattern: u64,
     out: &mut [E],
 ) -> Result<(), Fault>
-    ensures value { result ≡ result_and (answer (C.meaning card.old).size block 512) (unpack_answer block (E.Entry.reads physical) (length out.old) (block_of (map E.Entry.packed entries.now))) }
-    ensures entries { out.new ≡ (if is_ok (answer (C.meaning card.old).size block 512) then unpacked (E.Entry.reads physical) (block_of (map E.Entry.packed entries.now)) out.old else out.old) }
-    ensures card { SavedThenLost C.writes C.flushes C.loses (answer (C.meaning card.old).size block 512) block (block_of (map E.Entry.packed entries.now)) pattern card.old card.new }
+    ensures value { result ≡ result_and (answer (C.meaning card.old).size block 512) (unpack_answer block (E.reads physical) (length out.old) (block_of (map E.packed entries.now))) }
+    ensures entries { out.new ≡ (if is_ok (answer (C.meaning card.old).size block 512) then unpacked (E.reads physical) (block_of (map E.packed entries.now)) out.old else out.old) }
+    ensures card { SavedThenLost C.writes C.flushes C.loses (answer (C.meaning card.old).size block 512) block (block_of (map E.packed entries.now)) pattern card.old card.new }
     ensures lender { C.lenders card.new ≡ C.lenders card.old }
-    ensures back { block < (C.meaning card.old).size → length entries.now ≤ 128 → AllByRecursion (E.Entry.valid physical) entries.now → length out.old ≡ length entries.now → (result ≡ Ok tt) × (out.new ≡ entries.now) }
+    ensures back { block < (C.meaning card.old).size → length entries.now ≤ 128 → AllByRecursion (E.valid physical) entries.now → length out.old ≡ length entries.now → (result ≡ Ok tt) × (out.new ≡ entries.now) }
 {
     save_entries(card, block, entries)?;
     card.barrier();

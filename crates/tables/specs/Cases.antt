@@ -1,5 +1,5 @@
 -- Worked cases, as one list of statements that follow from the definitions.
-use Rattle.std.specs.Prelude.{◌≡◌, ℕ, List, [], ◌∷◌, replicate, cond, ◌&&◌, Some, None, Ok, Err, codes, Option, Result, ◌==◌, nat_lt}
+use Rattle.std.specs.Prelude.{◌≡◌, ℕ, List, [], ◌∷◌, replicate, if◌then◌else◌, ◌&&◌, Some, None, Ok, Err, codes, Option, Result, ◌==◌, nat_lt}
 use Rattle.cards.specs.Faults.{number_of}
 use Rattle.cards.specs.declared.fault.Extent.TheVariants.{Logical}
 use Rattle.cards.specs.declared.fault.Fault.{Fault}
@@ -36,8 +36,8 @@ worked =
     ∷ (number_of (BadWord 1 0) ≡ 9)
     ∷ LinkValid 6 (Some (physical_block 5))
     -- a link and a print, read from any word
-    ∷ ((p w : ℕ) → link_read p w ≡ cond (w == 0) (Some None) (cond (of_kind kind.Link w && nat_lt (value_of w) p) (Some (Some (physical_block (value_of w)))) None))
-    ∷ ((p w : ℕ) → print_read p w ≡ cond (w == 0) (Some None) (cond (of_kind kind.Print w) (Some (Some (print_of (value_of w)))) None))
+    ∷ ((p w : ℕ) → link_read p w ≡ (if w == 0 then Some None else (if of_kind kind.Link w && nat_lt (value_of w) p then Some (Some (physical_block (value_of w))) else None)))
+    ∷ ((p w : ℕ) → print_read p w ≡ (if w == 0 then Some None else (if of_kind kind.Print w then Some (Some (print_of (value_of w))) else None)))
     -- the greatest count, and one more
     ∷ (count_word (count_of 4095) ≡ 0x80000FFF)
     ∷ (one_entry (count_read 6) 0x80000FFF ≡ Ok tt)

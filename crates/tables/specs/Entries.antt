@@ -1,6 +1,6 @@
 -- The word that each entry packs to, the entry that a word stands for, and which entries may stand in a table. P is the
 -- number of physical blocks.
-use Rattle.std.specs.Prelude.{ℕ, ◌^◌, ◌<◌, ◌≤◌, cond, ◌&&◌, Some, None, Option, option_map, ◌==◌, nat_le, nat_lt}
+use Rattle.std.specs.Prelude.{ℕ, ◌^◌, ◌<◌, ◌≤◌, if◌then◌else◌, ◌&&◌, Some, None, Option, option_map, ◌==◌, nat_le, nat_lt}
 use Rattle.tables.specs.declared.entry.PhysicalBlock.{PhysicalBlock}
 use Rattle.tables.specs.declared.entry.Count.{Count}
 use Rattle.tables.specs.declared.entry.Print.{Print}
@@ -23,7 +23,7 @@ abbrev pub block_word : PhysicalBlock → ℕ
 block_word b = word_of kind.Link b.number
 
 abbrev pub block_read : ℕ → ℕ → Option PhysicalBlock
-block_read p w = cond (of_kind kind.Link w && nat_lt (value_of w) p) (Some (physical_block (value_of w))) None
+block_read p w = if of_kind kind.Link w && nat_lt (value_of w) p then Some (physical_block (value_of w)) else None
 
 abbrev pub BlockValid : ℕ → PhysicalBlock → Type 0
 BlockValid p b = (b.number < p) × (b.number < 2 ^ 30)
@@ -33,7 +33,7 @@ abbrev pub count_word : Count → ℕ
 count_word c = word_of kind.Count c.number
 
 abbrev pub count_read : ℕ → ℕ → Option Count
-count_read p w = cond (of_kind kind.Count w && nat_le (value_of w) 4095) (Some (count_of (value_of w))) None
+count_read p w = if of_kind kind.Count w && nat_le (value_of w) 4095 then Some (count_of (value_of w)) else None
 
 abbrev pub CountValid : ℕ → Count → Type 0
 CountValid p c = c.number ≤ 4095
@@ -43,7 +43,7 @@ abbrev pub fingerprint_word : Print → ℕ
 fingerprint_word f = word_of kind.Print f.value
 
 abbrev pub fingerprint_read : ℕ → ℕ → Option Print
-fingerprint_read p w = cond (of_kind kind.Print w) (Some (print_of (value_of w))) None
+fingerprint_read p w = if of_kind kind.Print w then Some (print_of (value_of w)) else None
 
 abbrev pub FingerprintValid : ℕ → Print → Type 0
 FingerprintValid p f = f.value < 2 ^ 30
@@ -54,7 +54,7 @@ blank_or packed None = 0
 blank_or packed (Some e) = packed e
 
 abbrev pub blank_or_read : {E : Type 0} → (ℕ → ℕ → Option E) → ℕ → ℕ → Option (Option E)
-blank_or_read reads p w = cond (w == 0) (Some None) (option_map (λ e. Some e) (reads p w))
+blank_or_read reads p w = if w == 0 then Some None else option_map (λ e. Some e) (reads p w)
 
 abbrev pub BlankOrValid : {E : Type 0} → (ℕ → E → Type 0) → ℕ → Option E → Type 0
 BlankOrValid valid p None = Unit {0}

@@ -1,5 +1,5 @@
 -- The header of a volume: its words, and the tests that an opening makes of them.
-use Rattle.std.specs.Prelude.{ℕ, Bool, cond, List, [], ◌∷◌, Ok, Err, Result, ◌==◌, slice_index}
+use Rattle.std.specs.Prelude.{ℕ, Bool, if◌then◌else◌, List, [], ◌∷◌, Ok, Err, Result, ◌==◌, slice_index}
 use Rattle.std.specs.Result.{result_and}
 use Rattle.cards.specs.declared.fault.Fault.{Fault}
 use Rattle.cards.specs.declared.fault.Fault.TheVariants.{Version, RuleNumber}
@@ -15,7 +15,7 @@ header_words s rule = 1 ∷ s.logical ∷ s.physical ∷ rule ∷ []
 
 -- a test: passed, or refused
 abbrev pub test : Bool → Fault → Result (Unit {0}) Fault
-test passed fault = cond passed (Ok tt) (Err fault)
+test passed fault = if passed then Ok tt else Err fault
 
 -- what the words of a header answer to an opening under the rule of this number, by tests in this order
 abbrev pub header_read : ℕ → List ℕ → Result Shape Fault

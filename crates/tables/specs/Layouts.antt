@@ -1,6 +1,6 @@
 -- Where a volume lies on its card. Card block 0 is the header. Then come the blocks of the link table, of the count table
 -- and of the print table, and then the physical blocks.
-use Rattle.std.specs.Prelude.{◌≡◌, ℕ, ◌+◌, ◌-◌, ◌*◌, ◌/◌, ◌<◌, ◌≤◌, min, Bool, true, cond, ◌&&◌, Some, None, Ok, Err, Option, Result, nat_le, nat_lt}
+use Rattle.std.specs.Prelude.{◌≡◌, ℕ, ◌+◌, ◌-◌, ◌*◌, ◌/◌, ◌<◌, ◌≤◌, min, Bool, true, if◌then◌else◌, ◌&&◌, Some, None, Ok, Err, Option, Result, nat_le, nat_lt}
 use Rattle.std.specs.Result.{result_and}
 use Rattle.cards.specs.declared.fault.Extent.{Extent}
 use Rattle.cards.specs.declared.fault.Extent.TheVariants.{Logical, Physical}
@@ -24,7 +24,7 @@ ValidShape s = (sized s.logical ≡ true) × (sized s.physical ≡ true)
 
 -- a number of blocks, or the refusal of the layer that asks
 abbrev pub sized_or : Layer → Extent → ℕ → Result ℕ Fault
-sized_or layer extent n = cond (sized n) (Ok n) (Err (VolumeSize layer extent))
+sized_or layer extent n = if sized n then Ok n else Err (VolumeSize layer extent)
 
 abbrev pub shape_of : Layer → ℕ → ℕ → Result Shape Fault
 shape_of layer l p = result_and (sized_or layer Logical l) (result_and (sized_or layer Physical p) (Ok (shape l p)))
@@ -72,9 +72,9 @@ part s t n = record {
 -- table block n
 abbrev pub table_block : Shape → ℕ → Option TableBlock
 table_block s n =
-    cond (nat_lt n (first_block s Counts)) (Some (part s Links n))
-    (cond (nat_lt n (first_block s Prints)) (Some (part s Counts n))
-    (cond (nat_lt n (table_blocks s)) (Some (part s Prints n)) None))
+    if nat_lt n (first_block s Counts) then Some (part s Links n)
+    else (if nat_lt n (first_block s Prints) then Some (part s Counts n)
+    else (if nat_lt n (table_blocks s) then Some (part s Prints n) else None))
 
 -- Table block n holds entry i of the table t.
 pub record Holds (s : Shape) (t : Table) (i : ℕ) (n : ℕ) : Type 0 where

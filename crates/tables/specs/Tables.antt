@@ -1,5 +1,5 @@
 -- A table block: the words of its entries, and zero words after the last.
-use Rattle.std.specs.Prelude.{◌≡◌, ℕ, ◌+◌, ◌<◌, Bool, true, false, cond, List, [], ◌∷◌, length, is_some, Some, None, Ok, Err, Option, Result, ◌==◌, nat_lt, slice_index}
+use Rattle.std.specs.Prelude.{◌≡◌, ℕ, ◌+◌, ◌<◌, Bool, true, false, if◌then◌else◌, List, [], ◌∷◌, length, is_some, Some, None, Ok, Err, Option, Result, ◌==◌, nat_lt, slice_index}
 use Rattle.std.specs.List.{flat_map}
 use Rattle.cards.specs.Blocks.{content}
 use Rattle.cards.specs.declared.fault.Fault.{Fault}
@@ -12,12 +12,12 @@ block_of ws = content (flat_map bytes_of ws)
 
 -- Whether w may be word k of a table block of n entries: it stands for an entry, or is a zero word after the last.
 abbrev pub good_word : {E : Type 0} → (ℕ → Option E) → ℕ → ℕ → ℕ → Bool
-good_word read n k w = cond (nat_lt k n) (is_some (read w)) (w == 0)
+good_word read n k w = if nat_lt k n then is_some (read w) else w == 0
 
 -- the first bad word in a table block of n entries, looked for in its words from number k on
 abbrev pub first_bad : {E : Type 0} → (ℕ → Option E) → ℕ → ℕ → List ℕ → Option ℕ
 first_bad read n k [] = None
-first_bad read n k (w ∷ ws) = cond (good_word read n k w) (first_bad read n (k + 1) ws) (Some k)
+first_bad read n k (w ∷ ws) = if good_word read n k w then first_bad read n (k + 1) ws else Some k
 
 -- refused for the first bad word of card block b, unless there is none
 abbrev pub unless_bad : ℕ → Option ℕ → Result (Unit {0}) Fault
@@ -37,8 +37,8 @@ Judged b read n ws (Err f) =
 
 -- what follows from a word that stands for an entry, and what where it stands for none
 abbrev pub on_entry : {E A : Type 0} → Option E → (E → A) → A → A
-on_entry (Some e) then else = then e
-on_entry None then else = else
+on_entry (Some e) f x = f e
+on_entry None f x = x
 
 -- The entries after the words were taken up: those that the words stand for, up to the first bad word, and from there on
 -- those of before.

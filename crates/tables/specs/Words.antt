@@ -1,5 +1,5 @@
 -- A word of a table: 32 bits, of which the top two are its kind and the low thirty its value. The zero word is blank.
-use Rattle.std.specs.Prelude.{◌≡◌, ℕ, ◌+◌, ◌*◌, ◌/◌, ◌%◌, ◌^◌, Bool, cond, List, [], ◌∷◌, length, drop, Some, None, Option, ◌==◌}
+use Rattle.std.specs.Prelude.{◌≡◌, ℕ, ◌+◌, ◌*◌, ◌/◌, ◌%◌, ◌^◌, Bool, if◌then◌else◌, List, [], ◌∷◌, length, drop, Some, None, Option, ◌==◌}
 use Rattle.tables.specs.declared.word.Kind.{Kind}
 use Rattle.tables.specs.declared.word.Kind.TheVariants.{Plain, Link, Count, Print}
 
@@ -18,7 +18,7 @@ value_of w = w % 2 ^ 30
 
 -- the value of a word, if the word is of this kind
 abbrev pub value_if : Kind → ℕ → Option ℕ
-value_if k w = cond (of_kind k w) (Some (value_of w)) None
+value_if k w = if of_kind k w then Some (value_of w) else None
 
 -- the word of a kind and a value
 abbrev pub word_of : Kind → ℕ → ℕ
