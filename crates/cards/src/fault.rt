@@ -102,7 +102,7 @@ impl Fault {
         }
     }
 
-    // The two places that the refusal names; one that is not used is 0.
+    // The two places that the refusal names. One that is not used is 0, and no `None`, as it is told and printed.
     pub fn places(&self) -> (usize, usize)
         ensures { result ≡ places_of self.now }
     {

@@ -27,8 +27,8 @@ impl Place {
     }
 }
 
-// The four places, of which the first `used` are in use. An array with a count, and no vector: a shelf has four places of
-// fixed memory, and to forget them is to set the count to zero.
+// The four places, of which the first `used` are in use. By the rules of a shelf they are an array of four records, of
+// which one is changed by a method; so no vector stands here, and the count stands beside the array.
 #[derive(Drop)]
 pub(crate) struct Places {
     all: [Place; PLACES],

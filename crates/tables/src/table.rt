@@ -21,7 +21,7 @@ fn word_at<E: Entry>(entries: &[E], i: usize) -> Word
 }
 
 // Packs entries to a block: word i is the word of entry i, and the words after the last entry are zero. A block has 128
-// words, and entries past these are left out.
+// words, and entries past these are left out; so that there are at most 128 is a premise of `back`, and in no type.
 pub fn pack_block<E: Entry>(entries: &[E]) -> [u8; BLOCK_SIZE]
     ensures bytes { result ≡ block_of (map E.packed entries.now) }
     ensures back { (p : ℕ) → length entries.now ≤ 128 → AllByRecursion (E.valid p) entries.now → UnpacksTo (E.reads p) entries.now result }
