@@ -1,4 +1,4 @@
--- A write through an empty shelf, and a barrier: what reaches the card below, and what that card then means.
+-- What a card means after a write and a barrier, and what the card below a shelf means then.
 use Rattle.std.proofs.Common.{◌≡◌, ℕ, ◌<◌, true, [], length, is_ok, Ok, MatchBool, Result, ◌∙◌, subst, arith}
 use Rattle.std.proofs.lemmas.Bool.Decides.{nat_tests}
 use Rattle.cards.specs.declared.fault.Fault.{Fault}

@@ -1,11 +1,9 @@
 // A card that writes straight through to lent bytes. Nothing waits, so a loss of power changes nothing.
-// Both makes over lent bytes write out `blocks`, `read` and `write`, here of a block's one place, there of the fresh one of
+// Both makes over lent bytes write out `new`, `blocks`, `read` and `write`, here of a block's one place, there of the fresh one of
 // its two. What they share is in blocks.rt; one type with the number of copies as a parameter would carry that number
 // through every fact about either.
-ghost use Rattle.std.specs.Prelude.{◌≡◌, length};
-ghost use Rattle.cards.specs.Answers.{answer, Written};
+ghost use Rattle.std.specs.Prelude.{◌≡◌};
 ghost use Rattle.cards.specs.Lenders.{loan};
-ghost use Rattle.cards.specs.Meanings.{Flushed, Lost};
 ghost use Rattle.cards.specs.PlainCards.{plain, plain_write};
 ghost use Rattle.cards.specs.SoundCards.{plain_sound};
 

@@ -1,11 +1,9 @@
 // A card over lent bytes whose writes wait. Each block has two copies: a write changes the fresh one, a barrier makes
 // the kept one equal to it, and a loss of power leaves one of the two.
-ghost use Rattle.std.specs.Prelude.{◌≡◌, length};
-ghost use Rattle.cards.specs.Answers.{answer, Written};
+ghost use Rattle.std.specs.Prelude.{◌≡◌};
 ghost use Rattle.cards.specs.Lenders.{loan};
-ghost use Rattle.cards.specs.Meanings.{Flushed, Lost};
 ghost use Rattle.cards.specs.SoundCards.{write_back_sound};
-ghost use Rattle.cards.specs.WriteBackCards.{write_back, back_write, pairs, fresh, fresh_stays, after_loss, Settled};
+ghost use Rattle.cards.specs.WriteBackCards.{write_back, back_write, fresh, fresh_stays, after_loss, Settled};
 
 use crate::blocks::{admit, block_at, copy_block, count, put_block};
 use crate::card::{BLOCK_SIZE, Card};

@@ -1,4 +1,5 @@
-// A table block that outlives a loss of power, on any card and for any kind of entry.
+// A table block that outlives a loss of power, on any card and for any kind of entry. What comes to the card is what comes
+// to it of a bare block: both say so by `SavedThenLost`.
 ghost use Rattle.std.specs.Prelude.{◌≡◌, ◌<◌, ◌≤◌, map, length, is_ok, if◌then◌else◌, Ok};
 ghost use Rattle.std.specs.Result.{result_and};
 ghost use Rattle.std.specs.List.{AllByRecursion};

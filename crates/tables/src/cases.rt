@@ -1,4 +1,4 @@
-// Worked cases: statements about small volumes that the prover computes from the definitions.
+// Worked cases: statements about small volumes, and about every word, that follow from the definitions.
 ghost use Rattle.tables.specs.Cases.{Hold, worked};
 
 // The cases hold, all of them.

@@ -61,6 +61,9 @@ pub trait NeverBlank: Entry {
     ghost never_blank: { (e : Self) → 0 < Self.packed e };
 }
 
+// The three entries that follow differ in their kind, their bound and the type of their number; `Word::new` and
+// `Word::value_if` are what they share.
+
 // A link: the number of a physical block.
 impl Entry for PhysicalBlock {
     ghost packed = { block_word };
@@ -116,6 +119,7 @@ impl Entry for Count {
     }
 }
 
+// By the format: a table of counts has no blank words.
 impl NeverBlank for Count {
     ghost never_blank = { Prim.search rules };
 }

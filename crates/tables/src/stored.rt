@@ -1,4 +1,5 @@
-// Table blocks and headers on a card.
+// Table blocks and headers on a card. To save is one call of the card, and to load one of `read_block`: entries and headers
+// differ in what packs and unpacks them.
 ghost use Rattle.std.specs.Prelude.{◌≡◌, ◌≤◌, map, length, is_ok, if◌then◌else◌, Ok};
 ghost use Rattle.std.specs.Result.{result_and};
 ghost use Rattle.std.specs.List.{AllByRecursion};
