@@ -1,12 +1,11 @@
 -- Writes, barriers and losses of the write-back card.
-use Rattle.std.proofs.Common.{◌≡◌, ℕ, zero, suc, ◌+◌, ◌-◌, ◌*◌, ◌/◌, ◌%◌, ◌^◌, ◌<◌, ◌≤◌, Bool, true, false, ◌&&◌, ◌==◌, ◌⊎◌, List, length, drop, is_ok, Ok, sym, refl, ap, ◌∙◌, subst, inl, inr, ⊎_elim, arith, below_more}
-use Rattle.std.proofs.lemmas.Bool.{eq-eqb, cond-true, cond-false}
-use Rattle.std.proofs.lemmas.Bool.Decides.{Decides-below_and, Decides-eqb}
+use Rattle.std.proofs.Common.{◌≡◌, ℕ, ◌+◌, ◌*◌, ◌<◌, ◌≤◌, ◌⊎◌, List, length, drop, is_ok, Ok, sym, refl, ap, ◌∙◌, subst, inl, inr, ⊎_elim, arith, below_more}
+use Rattle.std.proofs.lemmas.Bool.{cond-true}
 use Rattle.cards.specs.Answers.{answer}
 use Rattle.cards.specs.Blocks.{shown_blocks, block_at, put_block}
 use Rattle.cards.specs.Meanings.{Content, Wrote, Flushed, In}
 use Rattle.cards.specs.SoundCards.{length-block_at}
-use Rattle.cards.specs.WriteBackCards.{pairs, kept, fresh, write_back, back_write, fresh_stays, after_loss, Settled}
+use Rattle.cards.specs.WriteBackCards.{pairs, kept, fresh, write_back, back_write, Settled}
 use Rattle.cards.proofs.BlockLaws.{block_at-put_block, block_at-put_block_other, drop-put_block, length-put_block}
 
 same_pairs : (xs ys : List ℕ) → length ys ≡ length xs → pairs ys ≡ pairs xs
@@ -81,19 +80,15 @@ put_more f xs ys b from to lt way is mid =
     }
 
 -- the turn of block b in which the fresh copy stays, and the one in which the kept copy does
-module _ (pattern : ℕ) (xs ys zs : List ℕ) (b n : ℕ) (counted : n ≡ pairs xs) (lt : b < pairs xs) (mid : Midway (after_loss pattern xs) xs ys b) where
-  turned : (from to : ℕ) → Copied (pairs xs) b from to → block_at ys from ≡ after_loss pattern xs b → zs ≡ put_block ys to (block_at ys from) → Midway (after_loss pattern xs) xs zs (b + 1)
-  turned from to way is e = subst (λ zs. Midway (after_loss pattern xs) xs zs (b + 1)) (sym e) (put_more (after_loss pattern xs) xs ys b from to lt way is mid)
+module _ (f : ℕ → Content) (xs ys zs : List ℕ) (b n : ℕ) (counted : n ≡ pairs xs) (lt : b < pairs xs) (mid : Midway f xs ys b) where
+  turned : (from to : ℕ) → Copied (pairs xs) b from to → block_at ys from ≡ f b → zs ≡ put_block ys to (block_at ys from) → Midway f xs zs (b + 1)
+  turned from to way is e = subst (λ zs. Midway f xs zs (b + 1)) (sym e) (put_more f xs ys b from to lt way is mid)
 
-  pub midway_fresh : fresh_stays pattern b ≡ true → zs ≡ put_block ys b (block_at ys (n + b)) → Midway (after_loss pattern xs) xs zs (b + 1)
-  midway_fresh stays e =
-      turned (n + b) b (inl (ap (λ n. n + b) counted, refl))
-      (ap (λ n. block_at ys (n + b)) counted ∙ (mid.left b (omega arith) lt).1 ∙ sym (cond-true (fresh_stays pattern b) _ _ stays)) e
+  pub midway_fresh : f b ≡ fresh xs b → zs ≡ put_block ys b (block_at ys (n + b)) → Midway f xs zs (b + 1)
+  midway_fresh is e = turned (n + b) b (inl (ap (λ n. n + b) counted, refl)) (ap (λ n. block_at ys (n + b)) counted ∙ (mid.left b (omega arith) lt).1 ∙ sym is) e
 
-  pub midway_kept : fresh_stays pattern b ≡ false → zs ≡ put_block ys (n + b) (block_at ys b) → Midway (after_loss pattern xs) xs zs (b + 1)
-  midway_kept goes e =
-      turned b (n + b) (inr (refl, ap (λ n. n + b) counted))
-      ((mid.left b (omega arith) lt).0 ∙ sym (cond-false (fresh_stays pattern b) _ _ goes)) e
+  pub midway_kept : f b ≡ kept xs b → zs ≡ put_block ys (n + b) (block_at ys b) → Midway f xs zs (b + 1)
+  midway_kept is e = turned b (n + b) (inr (refl, ap (λ n. n + b) counted)) ((mid.left b (omega arith) lt).0 ∙ sym is) e
 
 -- ---- a barrier
 only : (f : ℕ → Content) (xs ys : List ℕ) → Settled f xs ys → (b : ℕ) (x : Content) → b < pairs xs → In x ((write_back ys).doubt b) → x ≡ fresh ys b
@@ -104,24 +99,4 @@ back_flushed xs ys s = record {
   size = same_pairs xs ys s.size;
   present = λ b l. s.fresh_is b l;
   settled = only (fresh xs) xs ys s;
-}
-
--- ---- a barrier is a loss whose pattern has every bit set
-bits_set : ℕ → Bool
-bits_set zero = true
-bits_set (suc k) = ((2 ^ 64 - 1) / 2 ^ k % 2 == 1) && bits_set k
-
-all_set : (k : ℕ) → k < 64 → (2 ^ 64 - 1) / 2 ^ k % 2 ≡ 1
-unfolding bits_set
-all_set = (Decides-below_and _ (λ k. (2 ^ 64 - 1) / 2 ^ k % 2 ≡ 1) bits_set (λ k. Decides-eqb _ 1) refl (λ _. refl) 64).0 refl
-
-all_left : (xs : List ℕ) (b : ℕ) → after_loss (2 ^ 64 - 1) xs b ≡ fresh xs b
-all_left xs b = cond-true (fresh_stays (2 ^ 64 - 1) b) (fresh xs b) (kept xs b) (eq-eqb _ 1 (all_set (b % 64) (omega arith)))
-
-pub settled_fresh : (xs ys : List ℕ) → Settled (after_loss (2 ^ 64 - 1) xs) xs ys → Settled (fresh xs) xs ys
-settled_fresh xs ys s = record {
-  size = s.size;
-  kept_is = λ b l. s.kept_is b l ∙ all_left xs b;
-  fresh_is = λ b l. s.fresh_is b l ∙ all_left xs b;
-  rest = s.rest;
 }

@@ -34,6 +34,10 @@ fresh_stays pattern b = pattern / 2 ^ (b % 64) % 2 == 1
 abbrev pub after_loss : ℕ → List ℕ → ℕ → Content
 after_loss pattern xs b = if fresh_stays pattern b then fresh xs b else kept xs b
 
+-- f is the copy of each block that stays, its fresh one where the answer for the block is true
+abbrev pub Chosen : (ℕ → Bool → Type 0) → List ℕ → (ℕ → Content) → Type 0
+Chosen answers xs f = (b : ℕ) (stays : Bool) → b < pairs xs → answers b stays → f b ≡ (if stays then fresh xs b else kept xs b)
+
 -- xs became ys: both copies of each block b now hold f b, and the bytes past the copies are as they were
 pub record Settled (f : ℕ → Content) (xs ys : List ℕ) : Type 0 where
   pub size : length ys ≡ length xs

@@ -1,9 +1,10 @@
 // A card over lent bytes whose writes wait. Each block has two copies: a write changes the fresh one, a barrier makes
 // the kept one equal to it, and a loss of power leaves one of the two.
-ghost use Rattle.std.specs.Prelude.{◌≡◌};
+ghost use Rattle.std.specs.Prelude.{◌≡◌, ℕ};
 ghost use Rattle.cards.specs.Lenders.{loan};
+ghost use Rattle.cards.specs.Meanings.{Content};
 ghost use Rattle.cards.specs.SoundCards.{write_back_sound};
-ghost use Rattle.cards.specs.WriteBackCards.{write_back, back_write, fresh, fresh_stays, after_loss, Settled};
+ghost use Rattle.cards.specs.WriteBackCards.{write_back, back_write, fresh, fresh_stays, after_loss, Chosen, Settled};
 
 use crate::blocks::{admit, block_at, copy_block, count, put_block};
 use crate::card::{BLOCK_SIZE, Card};
@@ -11,10 +12,6 @@ use crate::fault::Fault;
 
 // The bytes of a block's two copies.
 const PAIR_SIZE: usize = 2 * BLOCK_SIZE;
-
-// The pattern under which every fresh copy stays. A barrier is a loss under it: with a closure for the pattern, what is left
-// would be told by calls, and not by bits.
-const ALL_FRESH: u64 = u64::MAX;
 
 #[derive(Drop)]
 pub struct WriteBackCard<'a> {
@@ -28,15 +25,16 @@ fn fresh_stays(pattern: u64, b: usize) -> bool
     (pattern >> (b % 64)) % 2 == 1
 }
 
-// Copies one copy of each block over the other: the fresh one over the kept one where the pattern says that it stays,
-// else the kept one over the fresh one.
-fn settle(bytes: &mut [u8], pattern: u64)
-    ensures { Settled (after_loss pattern bytes.old) bytes.old bytes.new }
+// Copies one copy of each block over the other: the fresh one over the kept one where it stays, by the answer for the
+// block's number, else the kept one over the fresh one.
+fn settle<F: Fn(usize) -> bool>(bytes: &mut [u8], stays: F)
+    requires { F.IsAlwaysCallable stays }
+    ensures { (f : ℕ → Content) → Chosen (F.post stays) bytes.old f → Settled f bytes.old bytes.new }
 {
     // By number: once a loop has written to the chunks of a slice, nothing is known of what these hold.
     let n = count(bytes.len(), PAIR_SIZE);
     for b in 0..n {
-        if fresh_stays(pattern, b) {
+        if stays(b) {
             copy_block(bytes, n + b, b);
         } else {
             copy_block(bytes, b, n + b);
@@ -86,10 +84,10 @@ impl Card for WriteBackCard<'_> {
     }
 
     fn barrier(&mut self) {
-        settle(self.bytes, ALL_FRESH);
+        settle(self.bytes, |_| true);
     }
 
     fn lose_power(&mut self, pattern: u64) {
-        settle(self.bytes, pattern);
+        settle(self.bytes, |b| fresh_stays(pattern, b));
     }
 }
