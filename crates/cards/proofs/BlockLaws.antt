@@ -1,10 +1,9 @@
 -- One block of a run of blocks, after a block was written.
-use Rattle.std.proofs.Common.{◌≡◌, ℕ, ◌+◌, ◌-◌, ◌*◌, ◌<◌, ◌≤◌, min, List, ◌++◌, length, take, drop, replicate, sym, refl, ap, ◌∙◌, inl, inr, append_assoc, arith, length-append, length-drop, length-take}
+use Rattle.std.proofs.Common.{◌≡◌, ℕ, ◌+◌, ◌-◌, ◌*◌, ◌<◌, ◌≤◌, min, List, ◌++◌, length, take, drop, replicate, sym, ap, ◌∙◌, inl, inr, append_assoc, arith, length-append, length-drop, length-take}
 use borrow.Rule.Slice.PartMut.{put_mid}
-use lib.ListN.{length-replicate}
-use lib.Seq.{paste}
+use Rattle.std.proofs.Math.Seq.{paste}
 use Rattle.std.proofs.lemmas.Slice.{take-put_mid_below, drop-put_mid}
-use Rattle.std.proofs.lemmas.List.{drop-take, drop-drop, drop_at, take_at, length-take-le, replicate-append-replicate, append-nil, drop-replicate, take_all, take-append-le}
+use Rattle.std.proofs.lemmas.List.{drop-take, drop-drop, drop_at, take_at, length-take-le, replicate-append-replicate, append-nil, drop-replicate, length-replicate, take_all, take-append-le}
 use Rattle.std.proofs.lemmas.Bool.{cases_order, cases_lt}
 use Rattle.cards.specs.Blocks.{content, block_at, put_block}
 
@@ -34,12 +33,6 @@ content_cut xs n e =
           ap (λ ys. ys ++ replicate (512 - n) 0) (take_all n xs (omega arith)) ∙ sym (content_filled xs (512 - n) le (ap (λ k. 512 - k) all))
     ]
 
--- what a write to the bytes of a block leaves
-pub put_block_is : (xs c : List ℕ) (p k : ℕ) → k ≡ 512 → put_mid (p * 512) k xs c ≡ put_block xs p c
-put_block_is xs c p k e =
-    ap (λ n. take (p * 512) xs ++ (c ++ drop n (drop (p * 512) xs))) e
-    ∙ ap (λ zs. take (p * 512) xs ++ (c ++ zs)) (drop-drop 512 (p * 512) xs)
-
 -- what a copy of one block's bytes over another's leaves
 pub copied_block_is : (xs : List ℕ) (from to k : ℕ) → k ≡ 512 → paste xs (to * 512) (drop (from * 512) xs) k ≡ put_block xs to (block_at xs from)
 copied_block_is xs from to k e =
@@ -56,7 +49,7 @@ module _ (xs c : List ℕ) (p : ℕ) (whole : length c ≡ 512) (within : p * 51
       ∙ take_at c (drop (p * 512 + 512) xs) 512 whole
 
   as_part : put_block xs p c ≡ put_mid (p * 512) 512 xs c
-  as_part = sym (put_block_is xs c p 512 refl)
+  as_part = ap (λ zs. take (p * 512) xs ++ (c ++ zs)) (sym (drop-drop 512 (p * 512) xs))
 
   -- the bytes from n on, past the block
   pub drop-put_block : (n : ℕ) → p * 512 + 512 ≤ n → drop n (put_block xs p c) ≡ drop n xs

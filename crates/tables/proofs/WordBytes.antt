@@ -1,6 +1,6 @@
 -- Words and their bytes, there and back.
 use Rattle.std.proofs.Common.{◌≡◌, ℕ, zero, suc, ◌+◌, ◌-◌, ◌*◌, ◌/◌, ◌%◌, ◌^◌, ◌<◌, ◌≤◌, List, [], ◌∷◌, ◌++◌, length, slice_index, drop, replicate, sym, refl, ap, ◌∙◌, ap₂, mod-eq_of_lt, arith}
-use native.Mathlib.Nat.{div-div-eq-div-mul}
+use Rattle.std.proofs.Math.Nat.{div-div-eq-div-mul}
 use Rattle.std.proofs.lemmas.Nat.{div-add-mod', mod-mul-add, div_below}
 use Rattle.std.specs.List.{flat_map, AllByRecursion}
 use Rattle.tables.specs.Words.{bytes_of, word_from, words}
