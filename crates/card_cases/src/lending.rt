@@ -1,11 +1,11 @@
 // Whoever lends a card its bytes can tell what they hold when the card is done with them. Behind a shelf this takes two
 // steps: the bytes are lent to a card, and the card is lent to the shelf. Each function here saves one block by a write and
 // a barrier, and then lets the card go.
-ghost use Rattle.std.specs.Prelude.{◌≡◌, ℕ, true, List, length, is_ok, MatchBool};
+ghost use Rattle.std.specs.Prelude.{◌≡◌, true, length, is_ok, MatchBool};
 ghost use Rattle.cards.specs.Answers.{answer};
-ghost use Rattle.cards.specs.Meanings.{In};
 ghost use Rattle.cards.specs.PlainCards.{plain, plain_write};
 ghost use Rattle.cards.specs.WriteBackCards.{pairs};
+ghost use Rattle.card_cases.specs.Durable.{Durable};
 ghost use Rattle.card_cases.specs.SavedBytes.{SavedBytes};
 
 use crate::save::save;
@@ -38,8 +38,7 @@ pub fn save_write_back(bytes: &mut [u8], b: usize, block: &[u8]) -> Result<(), F
 pub fn save_through_shelf<C: Card>(card: &mut C, b: usize, block: &[u8]) -> Result<(), Fault>
     ensures value { result ≡ answer (C.meaning card.old).size b (length block.now) }
     ensures below { MatchBool (is_ok result) ((k : C) × C.writes card.old b block.now k × C.flushes k card.new) (card.new ≡ card.old) }
-    ensures present { is_ok result ≡ true → (C.meaning card.new).present b ≡ block.now }
-    ensures settled { is_ok result ≡ true → (x : List ℕ) → In x ((C.meaning card.new).doubt b) → x ≡ block.now }
+    ensures durable { is_ok result ≡ true → Durable (C.meaning card.new) b block.now }
     ensures lender { C.lenders card.new ≡ C.lenders card.old }
 {
     let mut shelf = Shelf::new(card);

@@ -6,7 +6,8 @@ use Rattle.cards.specs.Meanings.{Content, Meaning}
 use Rattle.cards.specs.Shelves.{Held, shelved, stored, written_below}
 use Rattle.cards.specs.declared.shelf.Shelf.{Shelf}
 
--- what a place holds; its bytes are 512, which the logic knows only where the code reads the array
+-- What a place that is listed holds. Its bytes are 512, which the logic knows only where the code reads the array, so here
+-- they are cut or filled.
 abbrev pub held : Held → Held
 held p = (p.0, content p.1)
 

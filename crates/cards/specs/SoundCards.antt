@@ -1,5 +1,5 @@
 -- Each make of card means something sound. These are proofs and define nothing; they stand here because the
--- implementations of the interface cite them, each as its ghost member `sound`.
+-- implementations of the interface cite them, each as its law `sound`.
 use Rattle.std.specs.Prelude.{◌≡◌, ℕ, ◌+◌, ◌*◌, ◌≤◌, true, false, cond, List, [], ◌∷◌, length, ◌==◌, refl}
 use Rattle.std.proofs.Common.{ap, ◌∙◌, inl, ⊎_elim, arith, length-take, length-drop, length-append}
 use Rattle.std.proofs.lemmas.List.{length-replicate}

@@ -27,8 +27,8 @@ impl Place {
     }
 }
 
-// The four places, of which the first `used` are in use. By the rules of a shelf they are an array of four records, of
-// which one is changed by a method; so no vector stands here, and the count stands beside the array.
+// The four places, of which the first `used` are in use. By the rules for this code they are an array of records in a plain
+// struct, and no vector of a library, so their count stands beside them.
 #[derive(Drop)]
 pub(crate) struct Places {
     all: [Place; PLACES],

@@ -1,5 +1,5 @@
 // A card that writes straight through to lent bytes. Nothing waits, so a loss of power changes nothing.
-// Both makes over lent bytes write out `new`, `blocks`, `read` and `write`, here of a block's one place, there of the fresh one of
+// Both makes over lent bytes write out `new`, `blocks`, `read` and `write`, here for a block's one place, there for the fresh one of
 // its two. What they share is in blocks.rt; one type with the number of copies as a parameter would carry that number
 // through every fact about either.
 ghost use Rattle.std.specs.Prelude.{◌≡◌};
@@ -50,6 +50,7 @@ impl Card for PlainCard<'_> {
     }
 
     fn write(&mut self, b: usize, bytes: &[u8]) -> Result<(), Fault> {
+        // Of this card: `self.blocks()` would ask a card that is lent.
         let block = admit((*self).blocks(), b, bytes)?;
         put_block(self.bytes, b, block);
         Ok(())

@@ -77,6 +77,7 @@ impl Card for WriteBackCard<'_> {
     }
 
     fn write(&mut self, b: usize, bytes: &[u8]) -> Result<(), Fault> {
+        // Of this card: `self.blocks()` would ask a card that is lent.
         let n = (*self).blocks();
         let block = admit(n, b, bytes)?;
         put_block(self.bytes, n + b, block);

@@ -13,15 +13,12 @@ use tables::entry::{Count, Entry, PhysicalBlock};
 use tables::layout::Shape;
 use tables::stored::load_entries;
 
-// How many logical blocks the volume has, and so how many links.
-const LOGICAL: usize = 3;
-
 const SHAPE: Shape = Shape {
-    logical: LOGICAL as u16,
+    logical: 3,
     physical: 2,
 };
 
-const LINKS: [Option<PhysicalBlock>; LOGICAL] = [
+const LINKS: [Option<PhysicalBlock>; 3] = [
     Some(PhysicalBlock { number: 0 }),
     None,
     Some(PhysicalBlock { number: 1 }),
@@ -43,7 +40,7 @@ fn show_links(rt: &HostRuntime, links: &[Option<PhysicalBlock>]) -> io::Result<(
 
 // Packs the links to a block of the card, over what it holds, and unpacks it after a loss of power.
 fn keep_links<C: Card>(rt: &HostRuntime, card: &mut C, block: usize) -> io::Result<()> {
-    let mut links = [None; LOGICAL];
+    let mut links = [None; 3];
     match save_and_lose(card, block, SHAPE.physical, &LINKS, 0, &mut links) {
         Ok(()) => {
             println!(rt;
@@ -57,7 +54,7 @@ fn keep_links<C: Card>(rt: &HostRuntime, card: &mut C, block: usize) -> io::Resu
 
 // Tries to unpack a block of the card as counts.
 fn try_counts<C: Card>(rt: &HostRuntime, card: &C, block: usize) -> io::Result<()> {
-    let mut counts = [Count { number: 0 }; LOGICAL];
+    let mut counts = [Count { number: 0 }; 3];
     match load_entries(card, block, SHAPE.physical, &mut counts) {
         Ok(()) => println!(rt; "card block {block} holds counts"),
         Err(fault) => println!(rt; "card block {block} taken for counts: {fault}"),

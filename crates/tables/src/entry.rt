@@ -61,7 +61,7 @@ pub trait NeverBlank: Entry {
     ghost never_blank: { (e : Self) → 0 < Self.packed e };
 }
 
-// The three entries that follow differ in their kind, their bound and the type of their number; `Word::new` and
+// The three entries that follow differ in their kind and their bound, and a print in its number; `Word::new` and
 // `Word::value_if` are what they share.
 
 // A link: the number of a physical block.
@@ -117,11 +117,6 @@ impl Entry for Count {
         let number = u16::try_from(word.value_if(Kind::Count)?).ok()?;
         (number <= COUNT_CEILING).then_some(Count { number })
     }
-}
-
-// By the format: a table of counts has no blank words.
-impl NeverBlank for Count {
-    ghost never_blank = { Prim.search rules };
 }
 
 impl Entry for Print {

@@ -11,8 +11,8 @@ const OFFSET_BASIS: u32 = 2166136261;
 
 const PRIME: u32 = 16777619;
 
-// The FNV-1a hash of some bytes: each byte in turn is mixed in by exclusive or, and then multiplication. A loop over the
-// bytes, as the rule is told.
+// The FNV-1a hash of some bytes: each byte in turn is mixed in by exclusive or, and then multiplication. By the
+// rules for this code it is a loop over the bytes.
 pub fn fnv_1a(bytes: &[u8]) -> u32
     ensures { result ≡ fnv_1a bytes.now }
 {

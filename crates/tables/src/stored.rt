@@ -1,5 +1,6 @@
 // Table blocks and headers on a card. To save is one call of the card, and to load one of `read_block`: entries and headers
-// differ in what packs and unpacks them.
+// differ in what packs and unpacks them. The clauses of a write stand apart, as at `Card::write`, since callers cite them one
+// by one.
 ghost use Rattle.std.specs.Prelude.{◌≡◌, ◌≤◌, map, length, is_ok, if◌then◌else◌, Ok};
 ghost use Rattle.std.specs.Result.{result_and};
 ghost use Rattle.std.specs.List.{AllByRecursion};

@@ -1,8 +1,8 @@
 // A table block: the words of a run of entries, and zero words after them. One text for every kind of entry.
-ghost use Rattle.std.specs.Prelude.{◌≡◌, ℕ, ◌+◌, ◌≤◌, map, length, is_some, Ok, slice_set, slice_index};
+ghost use Rattle.std.specs.Prelude.{◌≡◌, ℕ, ◌+◌, ◌≤◌, map, length, if◌then◌else◌, Some, None, Ok, slice_set, slice_index};
 ghost use Rattle.std.specs.List.{AllByRecursion};
 ghost use Rattle.tables.specs.Words.{words, bytes_of};
-ghost use Rattle.tables.specs.Tables.{block_of, good_word, unpack_answer, Judged, on_entry, unpacked, UnpacksTo};
+ghost use Rattle.tables.specs.Tables.{block_of, good_word, unless_bad, unpack_answer, Judged, on_entry, unpacked, UnpacksTo};
 
 use crate::entry::Entry;
 use crate::word::{BLANK, WORD_SIZE, Word, Words};
@@ -36,17 +36,27 @@ pub fn pack_block<E: Entry>(entries: &[E]) -> [u8; BLOCK_SIZE]
     block
 }
 
-// Takes up word k: as entry k, or as a zero word after the last entry. None if it is bad.
-fn take_word<E: Entry + Copy>(word: Word, k: usize, physical: u16, out: &mut [E]) -> Option<()>
-    ensures value { is_some result ≡ good_word (E.reads physical) (length out.old) k word.bits }
+// Takes up word k: as entry k, or as a zero word after the last entry. A bad word is refused, as one of this card block.
+fn take_word<E: Entry + Copy>(
+    word: Word,
+    card_block: usize,
+    k: usize,
+    physical: u16,
+    out: &mut [E],
+) -> Result<(), Fault>
+    ensures value { result ≡ unless_bad card_block (if good_word (E.reads physical) (length out.old) k word.bits then None else Some k) }
     ensures entries { out.new ≡ on_entry (E.reads physical word.bits) (slice_set out.old k) out.old }
 {
+    let bad = Fault::BadWord {
+        block: card_block,
+        word: k,
+    };
     if k >= out.len() {
-        return word.is_blank().then_some(());
+        return if word.is_blank() { Ok(()) } else { Err(bad) };
     }
     // By its index: what stands in a slice after a write through `get_mut` is not known to the proof.
-    out[k] = E::unpack(word, physical)?;
-    Some(())
+    out[k] = E::unpack(word, physical).ok_or(bad)?;
+    Ok(())
 }
 
 // Unpacks a block, which was read from this block of the card, to the entries of a volume with `physical` physical blocks.
@@ -64,10 +74,7 @@ pub fn unpack_block<E: Entry + Copy>(
     ensures back { result ≡ Ok tt → length out.old ≤ 128 → AllByRecursion (E.valid physical) out.new × (bytes.now ≡ block_of (map E.packed out.new)) }
 {
     for (k, word) in (Words { left: bytes }).enumerate() {
-        take_word(word, k, physical, out).ok_or(Fault::BadWord {
-            block: card_block,
-            word: k,
-        })?;
+        take_word(word, card_block, k, physical, out)?;
     }
     Ok(())
 }

@@ -31,8 +31,8 @@ loop-k-preserved g c =
           _ next.1 next.0 c.take_word.new.out c.take_word.ensures.entries good c.next.new.self.count number,
     )
 
-pub returns-in_err-ok_or : goal.returns-in_err-ok_or
-returns-in_err-ok_or g c =
+pub returns-in_err-take_word : goal.returns-in_err-take_word
+returns-in_err-take_word g c =
     let m = g.E.Entry in
     let laws = g.met.E.Entry in
     let p = c.args.physical in
