@@ -3,7 +3,7 @@
 // What each block then holds is shown.
 #![tactic(auto)]
 
-ghost use Rattle.std.specs.Prelude.{◌≡◌, true, is_ok};
+ghost use Rattle.std.specs.Prelude.{◌≡◌, ℕ, ◌≤◌, ◌⊎◌, true, length, take, is_ok};
 ghost use Rattle.cards.specs.Answers.{answer, Written, MeantWrite, WroteEach};
 ghost use Rattle.cards.specs.Blocks.{content};
 ghost use Rattle.demo.specs.Standings.{standing_text, writes_from};
@@ -95,9 +95,11 @@ const LATE_ENTRY: Standing = Standing {
 // Bits 0, 2, 4 and 5 are set.
 const PATTERN: u64 = 0x35;
 
-// Saves a line to block b, and says what came of it.
+// Saves a line to block b, and says what came of it. If memory runs out or printing fails, the line is saved or the card is as
+// it was.
 fn save_line<C: Card>(rt: &HostRuntime, card: &mut C, b: usize, line: &Standing) -> io::Result<()>
-    ensures { is_ok result ≡ true → Written (answer (C.meaning card.old).size b 512) (C.meaning card.old) b (content (standing_text line.now)) (C.meaning card.new) }
+    ensures failed { Written (answer (C.meaning card.old).size b 512) (C.meaning card.old) b (content (standing_text line.now)) (C.meaning card.new) ⊎ (C.meaning card.new ≡ C.meaning card.old) }
+    ensures saved { is_ok result ≡ true → Written (answer (C.meaning card.old).size b 512) (C.meaning card.old) b (content (standing_text line.now)) (C.meaning card.new) }
 {
     let text = line.to_string(rt.alloc())?;
     match save(card, b, text.as_str()) {
@@ -106,9 +108,10 @@ fn save_line<C: Card>(rt: &HostRuntime, card: &mut C, b: usize, line: &Standing)
     }
 }
 
-// Saves the lines of a round to blocks 0, 1 and on.
+// Saves the lines of a round to blocks 0, 1 and on. If that fails, the first few of them are saved, and nothing else is.
 fn save_round<C: Card>(rt: &HostRuntime, card: &mut C, round: &[Standing]) -> io::Result<()>
-    ensures { is_ok result ≡ true → WroteEach MeantWrite (writes_from 0 round.now) (C.meaning card.old) (C.meaning card.new) }
+    ensures failed { (n : ℕ) × (n ≤ length round.now) × WroteEach MeantWrite (writes_from 0 (take n round.now)) (C.meaning card.old) (C.meaning card.new) }
+    ensures saved { is_ok result ≡ true → WroteEach MeantWrite (writes_from 0 round.now) (C.meaning card.old) (C.meaning card.new) }
 {
     // A `for` and no chain: a contract says nothing of a card that a closure of the chain writes to.
     for (b, line) in round.iter().enumerate() {
