@@ -30,7 +30,7 @@ joined_runs (run ∷ runs) [] n m e l h =
 joined_runs (run ∷ runs) (w ∷ ws) n m e l h =
     run_word run (flat_map (λ r. r) runs) (flat_map bytes_of ws ++ replicate m 0) w n (n - 4) (omega arith) (h 0 (omega arith)) (joined_runs runs ws (n - 4) m (omega arith) (omega arith) (λ i lt. h (suc i) (omega arith)))
 
--- The words of a block once those of the first i entries stand in it: blank words are left behind them.
+-- The words of a block once those of the first i entries stand in it; the words after them are blank.
 pub record Packed (ws : List ℕ) (i : ℕ) (runs : List (List ℕ)) : Type 0 where
   pub whole : length runs ≡ 128
   pub done : (k : ℕ) → k < i → slice_index_or runs k [] ≡ bytes_of (slice_index ws k)
@@ -54,7 +54,7 @@ packed_more ws i runs run lt is p =
       blank = λ k le l. get_or-set_other runs i k run [] (λ e. omega arith) ∙ p.blank k (omega arith) l;
     }
 
--- All entries are packed, or as many as a block has words.
+-- Once all entries, or as many as a block has words, are packed, the bytes are those of the block.
 pub packed_all : (ws : List ℕ) (i : ℕ) (runs : List (List ℕ)) → (128 ≤ i) ⊎ (length ws ≤ i) → Packed ws i runs → flat_map (λ run. run) runs ≡ block_of ws
 packed_all ws i runs all p =
     joined_runs runs ws 512 512 (omega (arith, p.whole)) (omega arith)

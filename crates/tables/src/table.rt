@@ -1,5 +1,5 @@
 // A table block: the words of a run of entries, and zero words after them. One text for every kind of entry.
-ghost use Rattle.std.specs.Prelude.{◌≡◌, ℕ, ◌+◌, ◌≤◌, map, length, if◌then◌else◌, Some, None, Ok, slice_set};
+ghost use Rattle.std.specs.Prelude.{◌≡◌, ℕ, ◌≤◌, map, length, if◌then◌else◌, Some, None, Ok, slice_set};
 ghost use Rattle.std.specs.List.{AllByRecursion};
 ghost use Rattle.tables.specs.Words.{words};
 ghost use Rattle.tables.specs.Tables.{block_of, good_word, unless_bad, unpack_answer, Judged, on_entry, unpacked, UnpacksTo};
@@ -20,7 +20,7 @@ pub fn pack_block<E: Entry>(entries: &[E]) -> [u8; BLOCK_SIZE]
 {
     let packed = &entries[..entries.len().min(WORDS_PER_BLOCK)];
     let mut words = [[0u8; WORD_SIZE]; WORDS_PER_BLOCK];
-    // By number, and over the entries alone: the words after them are zero as they stand.
+    // Over the entries alone: the words after the last one stay zero.
     for (i, entry) in packed.iter().enumerate() {
         words[i] = entry.pack().to_bytes();
     }
