@@ -108,8 +108,8 @@ fn save_line<C: Card>(rt: &HostRuntime, card: &mut C, b: usize, line: &Standing)
     }
 }
 
-// Saves the lines of a round to blocks 0, 1 and on. If that fails, that holds of the first few of them, and nothing else came
-// to what the card means.
+// Saves the lines of a round to blocks 0, 1 and on, or is refused, line by line. If memory runs out or printing fails, this
+// holds of the first few of them, and nothing else changes what the card means.
 fn save_round<C: Card>(rt: &HostRuntime, card: &mut C, round: &[Standing]) -> io::Result<()>
     ensures failed { (n : ℕ) × (n ≤ length round.now) × WroteEach MeantWrite (writes_from 0 (take n round.now)) (C.meaning card.old) (C.meaning card.new) }
     ensures saved { is_ok result ≡ true → WroteEach MeantWrite (writes_from 0 round.now) (C.meaning card.old) (C.meaning card.new) }
