@@ -1,11 +1,12 @@
 -- Writes, barriers and losses of the write-back card.
-use Rattle.std.proofs.Common.{◌≡◌, ℕ, ◌+◌, ◌*◌, ◌<◌, ◌≤◌, ◌⊎◌, List, length, drop, is_ok, Ok, sym, refl, ap, ◌∙◌, subst, inl, inr, ⊎_elim, arith, below_more}
-use Rattle.std.proofs.lemmas.Bool.{cond-true}
+use Rattle.std.proofs.Common.{◌≡◌, ℕ, zero, suc, ◌+◌, ◌-◌, ◌*◌, ◌/◌, ◌%◌, ◌^◌, ◌<◌, ◌≤◌, Bool, true, ◌&&◌, eqb, ◌⊎◌, List, length, drop, is_ok, Ok, sym, refl, ap, ◌∙◌, subst, inl, inr, ⊎_elim, arith, below_more}
+use Rattle.std.proofs.lemmas.Bool.{eq-eqb, cond-true}
+use Rattle.std.proofs.lemmas.Bool.Decides.{Decides-below_and, Decides-eqb}
 use Rattle.cards.specs.Answers.{answer}
 use Rattle.cards.specs.Blocks.{shown_blocks, block_at, put_block}
 use Rattle.cards.specs.Meanings.{Content, Wrote, Flushed, In}
 use Rattle.cards.specs.SoundCards.{length-block_at}
-use Rattle.cards.specs.WriteBackCards.{pairs, kept, fresh, write_back, back_write, Settled}
+use Rattle.cards.specs.WriteBackCards.{pairs, kept, fresh, write_back, back_write, fresh_stays, after_loss, Settled}
 use Rattle.cards.proofs.BlockLaws.{block_at-put_block, block_at-put_block_other, drop-put_block, length-put_block}
 
 same_pairs : (xs ys : List ℕ) → length ys ≡ length xs → pairs ys ≡ pairs xs
@@ -99,4 +100,24 @@ back_flushed xs ys s = record {
   size = same_pairs xs ys s.size;
   present = λ b l. s.fresh_is b l;
   settled = only (fresh xs) xs ys s;
+}
+
+-- ---- a barrier is a loss whose pattern has every bit set
+bits_set : ℕ → Bool
+bits_set zero = true
+bits_set (suc k) = eqb ((2 ^ 64 - 1) / 2 ^ k % 2) 1 && bits_set k
+
+all_set : (k : ℕ) → k < 64 → (2 ^ 64 - 1) / 2 ^ k % 2 ≡ 1
+unfolding bits_set
+all_set = (Decides-below_and _ (λ k. (2 ^ 64 - 1) / 2 ^ k % 2 ≡ 1) bits_set (λ k. Decides-eqb _ 1) refl (λ _. refl) 64).0 refl
+
+all_left : (xs : List ℕ) (b : ℕ) → after_loss (2 ^ 64 - 1) xs b ≡ fresh xs b
+all_left xs b = cond-true (fresh_stays (2 ^ 64 - 1) b) (fresh xs b) (kept xs b) (eq-eqb _ 1 (all_set (b % 64) (omega arith)))
+
+pub settled_fresh : (xs ys : List ℕ) → Settled (after_loss (2 ^ 64 - 1) xs) xs ys → Settled (fresh xs) xs ys
+settled_fresh xs ys s = record {
+  size = s.size;
+  kept_is = λ b l. s.kept_is b l ∙ all_left xs b;
+  fresh_is = λ b l. s.fresh_is b l ∙ all_left xs b;
+  rest = s.rest;
 }

@@ -95,8 +95,8 @@ const LATE_ENTRY: Standing = Standing {
 // Bits 0, 2, 4 and 5 are set.
 const PATTERN: u64 = 0x35;
 
-// Saves a line to block b, and says what came of it. If memory runs out or printing fails, the line is saved or the card is as
-// it was.
+// Saves a line to block b, or is refused as the card refuses, and says which. If memory runs out or printing fails, that holds or
+// what the card means is as it was.
 fn save_line<C: Card>(rt: &HostRuntime, card: &mut C, b: usize, line: &Standing) -> io::Result<()>
     ensures failed { Written (answer (C.meaning card.old).size b 512) (C.meaning card.old) b (content (standing_text line.now)) (C.meaning card.new) ⊎ (C.meaning card.new ≡ C.meaning card.old) }
     ensures saved { is_ok result ≡ true → Written (answer (C.meaning card.old).size b 512) (C.meaning card.old) b (content (standing_text line.now)) (C.meaning card.new) }
@@ -108,7 +108,8 @@ fn save_line<C: Card>(rt: &HostRuntime, card: &mut C, b: usize, line: &Standing)
     }
 }
 
-// Saves the lines of a round to blocks 0, 1 and on. If that fails, the first few of them are saved, and nothing else is.
+// Saves the lines of a round to blocks 0, 1 and on, or is refused, line by line. If memory runs out or printing fails, this
+// holds of the first few of them, and nothing else changes what the card means.
 fn save_round<C: Card>(rt: &HostRuntime, card: &mut C, round: &[Standing]) -> io::Result<()>
     ensures failed { (n : ℕ) × (n ≤ length round.now) × WroteEach MeantWrite (writes_from 0 (take n round.now)) (C.meaning card.old) (C.meaning card.new) }
     ensures saved { is_ok result ≡ true → WroteEach MeantWrite (writes_from 0 round.now) (C.meaning card.old) (C.meaning card.new) }

@@ -39,7 +39,7 @@ shape_is false b layer l p s e = let z : ◌≡◌ {A = ℕ} 0 1 = cc in absurd 
 abbrev pub at : List Word → ℕ → ℕ
 at out k = (slice_index_or out k blank).bits
 
-abbrev tail_of : List ℕ → Result (Unit {0}) Fault
+abbrev pub tail_of : List ℕ → Result (Unit {0}) Fault
 tail_of ws = unless_bad 0 (first_bad (whole_read 0) 4 0 ws)
 
 abbrev blanks : List Word

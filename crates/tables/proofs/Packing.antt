@@ -1,9 +1,7 @@
 -- The words of entries, as the bytes of a block.
-use Rattle.std.proofs.Common.{◌≡◌, ℕ, zero, suc, ◌+◌, ◌-◌, ◌*◌, ◌<◌, ◌≤◌, List, [], ◌∷◌, ◌++◌, length, slice_index, slice_index_or, take, replicate, sym, refl, ap, subst, inl, inr, arith}
+use Rattle.std.proofs.Common.{◌≡◌, ℕ, suc, ◌+◌, ◌-◌, ◌*◌, ◌<◌, ◌≤◌, ◌⊎◌, List, [], ◌∷◌, ◌++◌, length, slice_index, slice_index_or, slice_set, take, replicate, sym, refl, ap, ◌∙◌, inl, inr, ⊎_elim, arith, below_more}
 use Rattle.std.proofs.lemmas.Bool.{cases_lt}
-use denote.Param.Members.{Mut}
-use Rattle.std.specs.Array.{IsFromFnResultFrom}
-use Rattle.std.specs.Fn.{Called}
+use Rattle.std.proofs.lemmas.List.{length-set, length-replicate, get_or-replicate, get_or-set_same, get_or-set_other, get_or_past}
 use Rattle.std.specs.List.{flat_map}
 use Rattle.cards.proofs.BlockLaws.{content_filled}
 use Rattle.tables.specs.Words.{bytes_of}
@@ -32,13 +30,35 @@ joined_runs (run ∷ runs) [] n m e l h =
 joined_runs (run ∷ runs) (w ∷ ws) n m e l h =
     run_word run (flat_map (λ r. r) runs) (flat_map bytes_of ws ++ replicate m 0) w n (n - 4) (omega arith) (h 0 (omega arith)) (joined_runs runs ws (n - 4) m (omega arith) (omega arith) (λ i lt. h (suc i) (omega arith)))
 
--- An array that a closure made which each call leaves as it was: each element is what the call at its place says.
-pub made_by : {F B : Type 0} (g : Mut F (ℕ × Unit {0}) B) (P : ℕ → B → Type 0) (f : F) → ((i : ℕ) (r : B) (k : F) → Called g f (i, tt) r k → P i r × (k ≡ f))
-    → (ys : List B) (d : B) (n a : ℕ) → IsFromFnResultFrom g f ys a n → (i : ℕ) → a ≤ i → i < a + n → P i (slice_index_or ys i d)
-made_by g P f h ys d zero a made i lo hi = absurd (omega arith)
-made_by g P f h ys d (suc n) a made i lo hi =
-    let s = h a made.1 made.0 made.3 in
-    elim (cases_lt a i) [
-      | inl lt ↦ made_by g P f h ys d n (a + 1) (subst (λ q. IsFromFnResultFrom g q ys (a + 1) n) s.1 made.4) i (omega arith) (omega arith)
-      | inr le ↦ let e : a ≡ i = omega arith in subst (λ k. P k (slice_index_or ys k d)) e (subst (λ y. P a y) (sym (made.2.1 d)) s.0)
-    ]
+-- The words of a block once those of the first i entries stand in it; the words after them are blank.
+pub record Packed (ws : List ℕ) (i : ℕ) (runs : List (List ℕ)) : Type 0 where
+  pub whole : length runs ≡ 128
+  pub done : (k : ℕ) → k < i → slice_index_or runs k [] ≡ bytes_of (slice_index ws k)
+  pub blank : (k : ℕ) → i ≤ k → k < 128 → slice_index_or runs k [] ≡ bytes_of 0
+
+pub packed_none : (ws : List ℕ) → Packed ws 0 (replicate 128 (bytes_of 0))
+packed_none ws = record {
+  whole = length-replicate 128 (bytes_of 0);
+  done = λ k lt. absurd (omega arith);
+  blank = λ k le lt. get_or-replicate 128 k (bytes_of 0) [] lt;
+}
+
+pub packed_more : (ws : List ℕ) (i : ℕ) (runs : List (List ℕ)) (run : List ℕ) → i < 128 → run ≡ bytes_of (slice_index ws i) → Packed ws i runs → Packed ws (i + 1) (slice_set runs i run)
+packed_more ws i runs run lt is p =
+    let inside : i < length runs = omega (arith, p.whole) in
+    record {
+      whole = length-set runs i run ∙ p.whole;
+      done = below_more (λ k. slice_index_or (slice_set runs i run) k [] ≡ bytes_of (slice_index ws k)) i
+          (λ k l. get_or-set_other runs i k run [] (λ e. omega arith) ∙ p.done k l)
+          (get_or-set_same runs i run [] inside ∙ is);
+      blank = λ k le l. get_or-set_other runs i k run [] (λ e. omega arith) ∙ p.blank k (omega arith) l;
+    }
+
+-- Once all entries, or as many as a block has words, are packed, the bytes are those of the block.
+pub packed_all : (ws : List ℕ) (i : ℕ) (runs : List (List ℕ)) → (128 ≤ i) ⊎ (length ws ≤ i) → Packed ws i runs → flat_map (λ run. run) runs ≡ block_of ws
+packed_all ws i runs all p =
+    joined_runs runs ws 512 512 (omega (arith, p.whole)) (omega arith)
+    (λ k lt. elim (cases_lt k i) [
+      | inl l ↦ p.done k l
+      | inr le ↦ p.blank k le (omega (arith, p.whole)) ∙ ap bytes_of (sym (get_or_past ws k 0 (⊎_elim (λ m. absurd (omega (arith, p.whole))) (λ m. omega arith) all)))
+    ])

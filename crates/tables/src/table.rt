@@ -1,24 +1,16 @@
 // A table block: the words of a run of entries, and zero words after them. One text for every kind of entry.
-ghost use Rattle.std.specs.Prelude.{◌≡◌, ℕ, ◌+◌, ◌≤◌, map, length, if◌then◌else◌, Some, None, Ok, slice_set, slice_index};
+ghost use Rattle.std.specs.Prelude.{◌≡◌, ℕ, ◌≤◌, map, length, if◌then◌else◌, Some, None, Ok, slice_set};
 ghost use Rattle.std.specs.List.{AllByRecursion};
-ghost use Rattle.tables.specs.Words.{words, bytes_of};
+ghost use Rattle.tables.specs.Words.{words};
 ghost use Rattle.tables.specs.Tables.{block_of, good_word, unless_bad, unpack_answer, Judged, on_entry, unpacked, UnpacksTo};
 
 use crate::entry::Entry;
-use crate::word::{BLANK, WORD_SIZE, Word, Words};
+use crate::word::{WORD_SIZE, Word, Words};
 use cards::card::BLOCK_SIZE;
 use cards::fault::Fault;
-use std::array;
 
 // The words of a block.
 pub const WORDS_PER_BLOCK: usize = BLOCK_SIZE / WORD_SIZE;
-
-// Word i of the block that the entries pack to: blank after the last of them.
-fn word_at<E: Entry>(entries: &[E], i: usize) -> Word
-    ensures { result.bits ≡ slice_index (map E.packed entries.now) i }
-{
-    entries.get(i).map_or(BLANK, |entry| entry.pack())
-}
 
 // Packs entries to a block: word i is the word of entry i, and the words after the last entry are zero. A block has 128
 // words, and entries past these are left out; so that there are at most 128 is a premise of `back`, and in no type.
@@ -26,11 +18,12 @@ pub fn pack_block<E: Entry>(entries: &[E]) -> [u8; BLOCK_SIZE]
     ensures bytes { result ≡ block_of (map E.packed entries.now) }
     ensures back { (p : ℕ) → length entries.now ≤ 128 → AllByRecursion (E.valid p) entries.now → UnpacksTo (E.reads p) entries.now result }
 {
-    let words: [[u8; WORD_SIZE]; WORDS_PER_BLOCK] = array::from_fn(
-        |i| -> [u8; WORD_SIZE]
-            ensures { result ≡ bytes_of (slice_index (map E.packed entries.entry.now) i) }
-        { word_at(entries, i).to_bytes() },
-    );
+    let packed = &entries[..entries.len().min(WORDS_PER_BLOCK)];
+    let mut words = [[0u8; WORD_SIZE]; WORDS_PER_BLOCK];
+    // Over the entries alone: the words after the last one stay zero.
+    for (i, entry) in packed.iter().enumerate() {
+        words[i] = entry.pack().to_bytes();
+    }
     let mut block = [0u8; BLOCK_SIZE];
     block.copy_from_slice(words.as_flattened());
     block
