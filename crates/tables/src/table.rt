@@ -20,7 +20,8 @@ pub fn pack_block<E: Entry>(entries: &[E]) -> [u8; BLOCK_SIZE]
 {
     let packed = &entries[..entries.len().min(WORDS_PER_BLOCK)];
     let mut words = [[0u8; WORD_SIZE]; WORDS_PER_BLOCK];
-    // Over the entries alone: the words after the last one stay zero.
+    // Over the entries alone: the words after the last one stay zero. By number, since the proof does not see the words in a
+    // loop over `words.iter_mut()` beside the entries.
     for (i, entry) in packed.iter().enumerate() {
         words[i] = entry.pack().to_bytes();
     }
